@@ -1,0 +1,4 @@
+pub mod Walks
+pub mod Slots
+pub mod Filling
+pub mod Lives
