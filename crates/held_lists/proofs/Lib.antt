@@ -1,2 +1,5 @@
 pub mod Splits
 pub mod Numbers
+pub mod Holds
+pub mod Pools
+pub mod Rows
