@@ -3,3 +3,4 @@ pub mod Numbers
 pub mod Holds
 pub mod Pools
 pub mod Rows
+pub mod Tells
