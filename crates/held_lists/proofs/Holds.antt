@@ -1,24 +1,21 @@
 -- The lists in hand and the live lists, apart from the rest of the state: what stays true as one goes to
 -- another place, is issued or is home.
-use Rattle.std.proofs.Common.{◌≡◌, ◌≢◌, ℕ, ◌+◌, ◌<◌, ◌==◌, Bool, true, false, cond, List, [], ◌∷◌, ◌++◌, Option, Some, None, map, filter, count_by, length, slice_index_or, slice_set, refl, sym, ap, ◌∙◌, subst, inl, inr, ⊎_elim, All, arith, append_assoc, append-nil, length-set, get_or-set_same, get_or-set_other, eq-eqb, ne_eqb}
-use Rattle.std.proofs.lemmas.Bool.{cases_eq}
+use Rattle.std.proofs.Common.{◌≡◌, ℕ, ◌+◌, ◌<◌, Bool, true, false, cond, List, [], ◌∷◌, ◌++◌, map, filter, count_by, length, slice_index_or, refl, sym, ap, ◌∙◌, subst, All, arith}
 use Rattle.std.proofs.lemmas.List.{map-append}
-use Rattle.std.proofs.lemmas.List.Elements.{All-nil, All-cons, All-head, All-tail, All-append, All-push, All-map, All-weaker, All-filter}
+use Rattle.std.proofs.lemmas.List.Elements.{All-head, All-tail, All-append, All-push, All-map, All-weaker}
 use Rattle.std.proofs.lemmas.List.Sums.{sum_by-cons}
 use Rattle.ndis_base.specs.declared.ListNo.{ListNo}
 use Rattle.ndis_base.specs.declared.ModuleId.{ModuleId}
-use Rattle.ndis_base.specs.declared.ModuleId.TheVariants.{Miniport, Filter, Binding}
-use Rattle.buffer_pools.specs.declared.label.Label.{Label}
-use Rattle.buffer_pools.specs.Views.{ListView, PoolView, Live, IsOf, Issues, Frees, live_at, live_count}
-use Rattle.buffer_pools.proofs.Lives.{is_of-issued, is_of-freed}
+use Rattle.ndis_base.specs.declared.ModuleId.TheVariants.{Miniport, Binding}
+use Rattle.buffer_pools.specs.Views.{ListView, PoolView, live_count}
 use Rattle.stack_rules.specs.declared.Stand.{Stand}
 use Rattle.stack_rules.specs.declared.Stand.TheVariants as stand
 use Rattle.stack_rules.specs.declared.LiveList.{LiveList}
 use Rattle.stack_rules.specs.Tests.{same_module}
 use Rattle.stack_rules.specs.Net.{Net, lists}
-use Rattle.stack_rules.specs.Places.{is_passed, is_kept_by, owned}
+use Rattle.stack_rules.specs.Places.{is_passed, is_kept_by}
 use Rattle.held_lists.specs.Held.{Common, in_hand, in_state, is_absent, Distinct, no_pool, IsHoused, Agrees}
-use Rattle.held_lists.proofs.Splits.{SplitAt, split_at, filter_rest, filter_out, filter_push_yes, filter_push_no, all_left, all_right}
+use Rattle.held_lists.proofs.Splits.{split_at, filter_rest, filter_out, filter_push_yes, filter_push_no, all_left, all_right}
 use Rattle.held_lists.proofs.Numbers.{distinct_without, absent_without, distinct_push, all_without, all_at, count_without, count_push}
 
 abbrev pub passes : LiveList → Bool
@@ -123,10 +120,10 @@ told_moved front x back y next pools number owner t =
       distinct = distinct_push (front ++ back) y (distinct_without front x back t.distinct) gone;
       below = All-push (IsBelow next) (front ++ back) y (all_without (IsBelow next) front x back t.below) (subst L (sym (ap (λ (k : ListNo). k.0) number)) low);
       counts = λ b within.
-        t.counts b within
-        ∙ count_without (is_owned (Binding b)) front x back
-        ∙ ap (λ m. count_by (is_owned (Binding b)) (front ++ back) + cond (same_module m (Binding b)) 1 0) (sym owner)
-        ∙ sym (count_push (is_owned (Binding b)) (front ++ back) y);
+          t.counts b within
+          ∙ count_without (is_owned (Binding b)) front x back
+          ∙ ap (λ m. count_by (is_owned (Binding b)) (front ++ back) + cond (same_module m (Binding b)) 1 0) (sym owner)
+          ∙ sym (count_push (is_owned (Binding b)) (front ++ back) y);
     }
 
 -- what is housed in another order
@@ -135,24 +132,24 @@ housed_turned pools l queue kept h =
     let P : ListView → Type 0 = IsHoused pools in
     let rest : All P (queue ++ kept) = All-tail P l (queue ++ kept) h in
     All-append P (queue ++ l ∷ []) kept
-        (All-push P queue l (all_left P queue kept rest) (All-head P l (queue ++ kept) h))
-        (all_right P queue kept rest)
+    (All-push P queue l (all_left P queue kept rest) (All-head P l (queue ++ kept) h))
+    (all_right P queue kept rest)
 
 pub housed_kept : (pools : List PoolView) (l : ListView) (queue kept : List ListView) → All (IsHoused pools) ((l ∷ queue) ++ kept) → All (IsHoused pools) (queue ++ (kept ++ l ∷ []))
 housed_kept pools l queue kept h =
     let P : ListView → Type 0 = IsHoused pools in
     let rest : All P (queue ++ kept) = All-tail P l (queue ++ kept) h in
     All-append P queue (kept ++ l ∷ [])
-        (all_left P queue kept rest)
-        (All-push P kept l (all_right P queue kept rest) (All-head P l (queue ++ kept) h))
+    (all_left P queue kept rest)
+    (All-push P kept l (all_right P queue kept rest) (All-head P l (queue ++ kept) h))
 
 pub housed_sent : (pools : List PoolView) (l : ListView) (queue kept : List ListView) → All (IsHoused pools) (queue ++ (l ∷ kept)) → All (IsHoused pools) ((queue ++ l ∷ []) ++ kept)
 housed_sent pools l queue kept h =
     let P : ListView → Type 0 = IsHoused pools in
     let rest : All P (l ∷ kept) = all_right P queue (l ∷ kept) h in
     All-append P (queue ++ l ∷ []) kept
-        (All-push P queue l (all_left P queue (l ∷ kept) h) (All-head P l kept rest))
-        (All-tail P l kept rest)
+    (All-push P queue l (all_left P queue (l ∷ kept) h) (All-head P l kept rest))
+    (All-tail P l kept rest)
 
 -- where the first list in hand stands among the live ones
 pub record Found (p : LiveList → Bool) (ls : List LiveList) (l : ListView) (queue : List ListView) : Type 0 where
@@ -194,11 +191,11 @@ pub holds_passed : (front : List LiveList) (x : LiveList) (back rest : List Live
     → Holds ((front ++ back) ++ y ∷ []) next (queue ++ l ∷ []) kept pools
 holds_passed front x back rest y next l queue kept pools passing none some others alike same passed h = record {
   queue_is =
-    pushed_in queue l rest y others (alike ∙ same)
-    ∙ ap (map in_state) (ap (λ zs. zs ++ y ∷ []) (sym (filter_rest passes front back rest none some)) ∙ sym (filter_push_yes passes (front ++ back) y passed));
+      pushed_in queue l rest y others (alike ∙ same)
+      ∙ ap (map in_state) (ap (λ zs. zs ++ y ∷ []) (sym (filter_rest passes front back rest none some)) ∙ sym (filter_push_yes passes (front ++ back) y passed));
   kept_is =
-    h.kept_is
-    ∙ ap (map in_state) (filter_out stays front x back (passed_not_kept x.stand passing) ∙ sym (filter_push_no stays (front ++ back) y (passed_not_kept y.stand passed)));
+      h.kept_is
+      ∙ ap (map in_state) (filter_out stays front x back (passed_not_kept x.stand passing) ∙ sym (filter_push_no stays (front ++ back) y (passed_not_kept y.stand passed)));
   told = told_moved front x back y next pools (ap (λ (c : Common). c.list) alike) (ap (λ (c : Common). c.owner) alike) h.told;
   housed = housed_turned pools l queue kept h.housed;
 }
@@ -211,14 +208,14 @@ pub holds_kept : (front : List LiveList) (x : LiveList) (back rest : List LiveLi
     → Holds ((front ++ back) ++ y ∷ []) next queue (kept ++ l ∷ []) pools
 holds_kept front x back rest y next l queue kept pools passing none some others alike same staying h =
     let kept_there : map in_hand kept ≡ map in_state (filter stays (front ++ back)) =
-        h.kept_is ∙ ap (map in_state) (filter_out stays front x back (passed_not_kept x.stand passing)) in
+    h.kept_is ∙ ap (map in_state) (filter_out stays front x back (passed_not_kept x.stand passing)) in
     record {
       queue_is =
-        others
-        ∙ ap (map in_state) (sym (filter_rest passes front back rest none some) ∙ sym (filter_push_no passes (front ++ back) y (kept_not_passed y.stand staying)));
+          others
+          ∙ ap (map in_state) (sym (filter_rest passes front back rest none some) ∙ sym (filter_push_no passes (front ++ back) y (kept_not_passed y.stand staying)));
       kept_is =
-        pushed_in kept l (filter stays (front ++ back)) y kept_there (alike ∙ same)
-        ∙ ap (map in_state) (sym (filter_push_yes stays (front ++ back) y staying));
+          pushed_in kept l (filter stays (front ++ back)) y kept_there (alike ∙ same)
+          ∙ ap (map in_state) (sym (filter_push_yes stays (front ++ back) y staying));
       told = told_moved front x back y next pools (ap (λ (c : Common). c.list) alike) (ap (λ (c : Common). c.owner) alike) h.told;
       housed = housed_kept pools l queue kept h.housed;
     }
@@ -231,14 +228,14 @@ pub holds_sent : (front : List LiveList) (x : LiveList) (back rest : List LiveLi
     → Holds ((front ++ back) ++ y ∷ []) next (queue ++ l ∷ []) kept pools
 holds_sent front x back rest y next l queue kept pools staying none some others alike same passed h =
     let queue_there : map in_hand queue ≡ map in_state (filter passes (front ++ back)) =
-        h.queue_is ∙ ap (map in_state) (filter_out passes front x back (kept_not_passed x.stand staying)) in
+    h.queue_is ∙ ap (map in_state) (filter_out passes front x back (kept_not_passed x.stand staying)) in
     record {
       queue_is =
-        pushed_in queue l (filter passes (front ++ back)) y queue_there (alike ∙ same)
-        ∙ ap (map in_state) (sym (filter_push_yes passes (front ++ back) y passed));
+          pushed_in queue l (filter passes (front ++ back)) y queue_there (alike ∙ same)
+          ∙ ap (map in_state) (sym (filter_push_yes passes (front ++ back) y passed));
       kept_is =
-        others
-        ∙ ap (map in_state) (sym (filter_rest stays front back rest none some) ∙ sym (filter_push_no stays (front ++ back) y (passed_not_kept y.stand passed)));
+          others
+          ∙ ap (map in_state) (sym (filter_rest stays front back rest none some) ∙ sym (filter_push_no stays (front ++ back) y (passed_not_kept y.stand passed)));
       told = told_moved front x back y next pools (ap (λ (c : Common). c.list) alike) (ap (λ (c : Common). c.owner) alike) h.told;
       housed = housed_sent pools l queue kept h.housed;
     }

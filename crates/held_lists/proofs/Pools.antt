@@ -1,10 +1,9 @@
 -- The pools as a list is issued or goes home.
-use Rattle.std.proofs.Common.{◌≡◌, ◌≢◌, ℕ, ◌+◌, ◌<◌, ◌==◌, ◌⊎◌, Bool, true, false, cond, List, [], ◌∷◌, ◌++◌, Option, Some, None, map, filter, count_by, length, slice_index_or, slice_set, refl, sym, ap, ◌∙◌, subst, inl, inr, All, arith, length-set, get_or-set_same, get_or-set_other, eq-eqb, ne_eqb}
+use Rattle.std.proofs.Common.{◌≡◌, ◌≢◌, ℕ, ◌+◌, ◌<◌, ◌⊎◌, Bool, true, cond, List, [], ◌∷◌, ◌++◌, Some, map, filter, count_by, length, slice_index_or, slice_set, refl, sym, ap, ◌∙◌, subst, inl, inr, All, arith, length-set, get_or-set_same, get_or-set_other, eq-eqb, ne_eqb}
 use Rattle.std.proofs.lemmas.Bool.{cases_eq}
 use Rattle.std.proofs.lemmas.List.Elements.{All-nil, All-cons, All-head, All-tail, All-append, All-push, All-weaker, All-filter}
-use Rattle.ndis_base.specs.declared.ListNo.{ListNo}
 use Rattle.ndis_base.specs.declared.ModuleId.{ModuleId}
-use Rattle.ndis_base.specs.declared.ModuleId.TheVariants.{Miniport, Filter, Binding}
+use Rattle.ndis_base.specs.declared.ModuleId.TheVariants.{Binding}
 use Rattle.buffer_pools.specs.Views.{ListView, PoolView, Live, IsOf, Issues, Frees, live_at, live_count}
 use Rattle.buffer_pools.proofs.Lives.{is_of-issued, is_of-freed}
 use Rattle.stack_rules.specs.declared.LiveList.{LiveList}
@@ -12,7 +11,7 @@ use Rattle.stack_rules.specs.Tests.{same_module}
 use Rattle.held_lists.specs.Held.{Common, in_hand, in_state, is_absent, no_pool, IsHoused}
 use Rattle.held_lists.proofs.Splits.{filter_rest, filter_out, filter_push_yes, filter_push_no, all_left, all_right}
 use Rattle.held_lists.proofs.Numbers.{distinct_without, absent_without, distinct_push, all_without, count_without, count_push}
-use Rattle.held_lists.proofs.Holds.{Holds, IsTold, IsBelow, passes, stays, is_owned, passed_not_kept, pushed_in}
+use Rattle.held_lists.proofs.Holds.{Holds, IsBelow, passes, stays, is_owned, passed_not_kept, pushed_in}
 
 abbrev pub pool_at : List PoolView → ℕ → PoolView
 pool_at pools b = slice_index_or pools b no_pool
@@ -97,7 +96,7 @@ housed_freed pools b after l rest within owner frees mine apart housed =
     let pool : PoolView = pool_at pools b in
     let of : IsOf pool l = of_pool pools b l mine owner in
     let step : (o : ListView) → P o → IsHoused pools o → IsHoused (slice_set pools b after) o =
-        λ o other h. housed_still pools b after o within (λ its. is_of-freed pool after l o frees (slot_apart pool l o of its other) its) h in
+    λ o other h. housed_still pools b after o within (λ its. is_of-freed pool after l o frees (slot_apart pool l o of its other) its) h in
     all_both P (IsHoused pools) (IsHoused (slice_set pools b after)) rest step apart housed
 
 -- a list is issued
@@ -134,14 +133,14 @@ freed_count pools b after l front x back c within owner frees told (inl e) =
     let here : live_count (slice_index_or (slice_set pools b after) b no_pool) ≡ live_count after = ap live_count (get_or-set_same pools b after no_pool within) in
     let before : live_count (slice_index_or pools b no_pool) ≡ count_by (is_owned (Binding b)) (front ++ x ∷ back) = subst D e told in
     let fewer : count_by (is_owned (Binding b)) (front ++ x ∷ back) ≡ count_by (is_owned (Binding b)) (front ++ back) + 1 =
-        count_without (is_owned (Binding b)) front x back ∙ ap (λ n. count_by (is_owned (Binding b)) (front ++ back) + n) (own b x.owner owner) in
+    count_without (is_owned (Binding b)) front x back ∙ ap (λ n. count_by (is_owned (Binding b)) (front ++ back) + n) (own b x.owner owner) in
     let count : live_count after + 1 ≡ live_count (slice_index_or pools b no_pool) = frees.count in
     let there : live_count (slice_index_or (slice_set pools b after) b no_pool) ≡ count_by (is_owned (Binding b)) (front ++ back) = omega (arith, here, before, fewer, count) in
     subst C (sym e) there
 freed_count pools b after l front x back c within owner frees told (inr ne) =
     let here : live_count (slice_index_or (slice_set pools b after) c no_pool) ≡ live_count (slice_index_or pools c no_pool) = ap live_count (get_or-set_other pools b c after no_pool ne) in
     let fewer : count_by (is_owned (Binding c)) (front ++ x ∷ back) ≡ count_by (is_owned (Binding c)) (front ++ back) + 0 =
-        count_without (is_owned (Binding c)) front x back ∙ ap (λ n. count_by (is_owned (Binding c)) (front ++ back) + n) (not_own b c x.owner owner ne) in
+    count_without (is_owned (Binding c)) front x back ∙ ap (λ n. count_by (is_owned (Binding c)) (front ++ back) + n) (not_own b c x.owner owner ne) in
     let there : live_count (slice_index_or (slice_set pools b after) c no_pool) ≡ count_by (is_owned (Binding c)) (front ++ back) = omega (arith, here, told, fewer) in
     there
 
@@ -155,14 +154,14 @@ issued_count pools b after l ls x c within owner issues told (inl e) =
     let here : live_count (slice_index_or (slice_set pools b after) b no_pool) ≡ live_count after = ap live_count (get_or-set_same pools b after no_pool within) in
     let before : live_count (slice_index_or pools b no_pool) ≡ count_by (is_owned (Binding b)) ls = subst D e told in
     let more : count_by (is_owned (Binding b)) (ls ++ x ∷ []) ≡ count_by (is_owned (Binding b)) ls + 1 =
-        count_push (is_owned (Binding b)) ls x ∙ ap (λ n. count_by (is_owned (Binding b)) ls + n) (own b x.owner owner) in
+    count_push (is_owned (Binding b)) ls x ∙ ap (λ n. count_by (is_owned (Binding b)) ls + n) (own b x.owner owner) in
     let count : live_count after ≡ live_count (slice_index_or pools b no_pool) + 1 = issues.count in
     let there : live_count (slice_index_or (slice_set pools b after) b no_pool) ≡ count_by (is_owned (Binding b)) (ls ++ x ∷ []) = omega (arith, here, before, more, count) in
     subst C (sym e) there
 issued_count pools b after l ls x c within owner issues told (inr ne) =
     let here : live_count (slice_index_or (slice_set pools b after) c no_pool) ≡ live_count (slice_index_or pools c no_pool) = ap live_count (get_or-set_other pools b c after no_pool ne) in
     let more : count_by (is_owned (Binding c)) (ls ++ x ∷ []) ≡ count_by (is_owned (Binding c)) ls + 0 =
-        count_push (is_owned (Binding c)) ls x ∙ ap (λ n. count_by (is_owned (Binding c)) ls + n) (not_own b c x.owner owner ne) in
+    count_push (is_owned (Binding c)) ls x ∙ ap (λ n. count_by (is_owned (Binding c)) ls + n) (not_own b c x.owner owner ne) in
     let there : live_count (slice_index_or (slice_set pools b after) c no_pool) ≡ count_by (is_owned (Binding c)) (ls ++ x ∷ []) = omega (arith, here, told, more) in
     there
 
@@ -174,17 +173,17 @@ pub holds_homed : (front : List LiveList) (x : LiveList) (back rest : List LiveL
     → Holds (front ++ back) next queue kept (slice_set pools b after)
 holds_homed front x back rest next l queue kept pools b after passing none some others same owner within frees h =
     let queue_there : map in_hand queue ≡ map in_state (filter passes (front ++ back)) =
-        others ∙ ap (map in_state) (sym (filter_rest passes front back rest none some)) in
+    others ∙ ap (map in_state) (sym (filter_rest passes front back rest none some)) in
     let kept_there : map in_hand kept ≡ map in_state (filter stays (front ++ back)) =
-        h.kept_is ∙ ap (map in_state) (filter_out stays front x back (passed_not_kept x.stand passing)) in
+    h.kept_is ∙ ap (map in_state) (filter_out stays front x back (passed_not_kept x.stand passing)) in
     let number : x.list.0 ≡ l.label.number.0 = ap (λ (c : Common). c.list.0) same in
     let A : ℕ → Type 0 = λ n. is_absent n (front ++ back) in
     let absent : is_absent l.label.number.0 (front ++ back) = subst A number (absent_without front x back h.told.distinct) in
     let K : LiveList → Type 0 = λ k. k.list.0 ≡ l.label.number.0 → ⊥ in
     let P : ListView → Type 0 = λ o. o.label.number.0 ≡ l.label.number.0 → ⊥ in
     let apart : All P (queue ++ kept) = All-append P queue kept
-        (apart_seen l.label.number.0 queue (filter passes (front ++ back)) queue_there (All-filter passes K (front ++ back) absent))
-        (apart_seen l.label.number.0 kept (filter stays (front ++ back)) kept_there (All-filter stays K (front ++ back) absent)) in
+    (apart_seen l.label.number.0 queue (filter passes (front ++ back)) queue_there (All-filter passes K (front ++ back) absent))
+    (apart_seen l.label.number.0 kept (filter stays (front ++ back)) kept_there (All-filter stays K (front ++ back) absent)) in
     record {
       queue_is = queue_there;
       kept_is = kept_there;

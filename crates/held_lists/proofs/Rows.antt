@@ -1,5 +1,5 @@
 -- The lists in hand still agree with the state after the rows of a turn.
-use Rattle.std.proofs.Common.{◌≡◌, ℕ, ◌+◌, ◌<◌, ◌==◌, Bool, true, false, if◌then◌else◌, List, [], ◌∷◌, ◌++◌, Option, None, map, filter, length, slice_set, arith, refl, sym, ap, ◌∙◌, subst, All, append-nil}
+use Rattle.std.proofs.Common.{◌≡◌, ℕ, ◌+◌, ◌<◌, ◌==◌, Bool, true, false, if◌then◌else◌, List, [], ◌∷◌, ◌++◌, None, map, length, slice_set, arith, refl, ap, ◌∙◌, subst, All, append-nil}
 use Rattle.std.proofs.lemmas.List.Elements.{All-nil, All-append, All-weaker}
 use Rattle.ndis_base.specs.declared.ListNo.{ListNo}
 use Rattle.ndis_base.specs.declared.CrossNo.{CrossNo}
@@ -15,18 +15,16 @@ use Rattle.journal_types.specs.declared.PhaseOf.{PhaseOf}
 use Rattle.journal_types.specs.declared.PhaseOf.TheVariants as of
 use Rattle.journal_types.specs.declared.OutWay.{OutWay}
 use Rattle.journal_types.specs.declared.OutWay.TheVariants as out
-use Rattle.journal_types.specs.declared.Row.{Row}
 use Rattle.journal_types.specs.declared.Row.TheVariants as row
 use Rattle.buffer_pools.specs.Views.{ListView, PoolView, Issues, Frees, live_count}
 use Rattle.stack_rules.specs.declared.Stand.TheVariants as stand
 use Rattle.stack_rules.specs.declared.LiveList.{LiveList}
-use Rattle.stack_rules.specs.declared.Thing.{Thing}
 use Rattle.stack_rules.specs.declared.Thing.TheVariants as thing
 use Rattle.stack_rules.specs.Net.{Net, lists, after, had_by, taken_by}
 use Rattle.stack_rules.specs.Outcome.{list_no}
-use Rattle.held_lists.specs.Held.{Common, in_hand, in_state, is_absent, no_pool, IsHoused, Agrees}
+use Rattle.held_lists.specs.Held.{Common, in_hand, in_state, no_pool, IsHoused, Agrees}
 use Rattle.held_lists.proofs.Numbers.{touched, absent_without, lists-append, lists-changed, lists-without_one, lists-passed, lists-kept}
-use Rattle.held_lists.proofs.Holds.{Holds, IsTold, IsBelow, IsQuiet, Found, passes, stays, is_owned, holds_from, agrees_from, found_first, holds_passed, holds_kept, holds_sent, holds_quiet}
+use Rattle.held_lists.proofs.Holds.{Holds, IsBelow, IsQuiet, passes, stays, holds_from, agrees_from, found_first, holds_passed, holds_kept, holds_sent, holds_quiet}
 use Rattle.held_lists.proofs.Pools.{pool_at, holds_homed, holds_issued}
 
 -- a state without things
@@ -85,22 +83,22 @@ pub given : (net : Net) (n : ListNo) (m : ModuleId) (handler : Handler) (queue k
     → Agrees net queue kept pools → Agrees (after net (row.Give n m handler)) queue kept pools
 given net n m handler queue kept pools agrees =
     agrees_from (after net (row.Give n m handler)) (map (touched n.0 (had_by m)) (lists net.things)) net.next.list queue kept pools
-        (lists-changed n.0 (had_by m) net.things) refl
-        (holds_quiet (touched n.0 (had_by m)) (touched_quiet n.0 (had_by m) (had_quiet m)) (lists net.things) net.next.list queue kept pools (holds_from agrees))
+    (lists-changed n.0 (had_by m) net.things) refl
+    (holds_quiet (touched n.0 (had_by m)) (touched_quiet n.0 (had_by m) (had_quiet m)) (lists net.things) net.next.list queue kept pools (holds_from agrees))
 
 pub turned_back : (net : Net) (n : ListNo) (m : ModuleId) (status : ListStatus) (queue kept : List ListView) (pools : List PoolView)
     → Agrees net queue kept pools → Agrees (after net (row.TurnBack n m status)) queue kept pools
 turned_back net n m status queue kept pools agrees =
     agrees_from (after net (row.TurnBack n m status)) (map (touched n.0 (had_by m)) (lists net.things)) net.next.list queue kept pools
-        (lists-changed n.0 (had_by m) net.things) refl
-        (holds_quiet (touched n.0 (had_by m)) (touched_quiet n.0 (had_by m) (had_quiet m)) (lists net.things) net.next.list queue kept pools (holds_from agrees))
+    (lists-changed n.0 (had_by m) net.things) refl
+    (holds_quiet (touched n.0 (had_by m)) (touched_quiet n.0 (had_by m) (had_quiet m)) (lists net.things) net.next.list queue kept pools (holds_from agrees))
 
 pub crossed_out : (net : Net) (message : CrossNo) (way : OutWay) (frames : List (List ℕ)) (queue kept : List ListView) (pools : List PoolView)
     → Agrees net queue kept pools → Agrees (after net (row.CrossOut message way frames)) queue kept pools
 crossed_out net message (out.Down list) frames queue kept pools agrees =
     agrees_from (after net (row.CrossOut message (out.Down list) frames)) (map (touched list.0 (taken_by message.0)) (lists net.things)) net.next.list queue kept pools
-        (lists-changed list.0 (taken_by message.0) net.things) refl
-        (holds_quiet (touched list.0 (taken_by message.0)) (touched_quiet list.0 (taken_by message.0) (taken_quiet message.0)) (lists net.things) net.next.list queue kept pools (holds_from agrees))
+    (lists-changed list.0 (taken_by message.0) net.things) refl
+    (holds_quiet (touched list.0 (taken_by message.0)) (touched_quiet list.0 (taken_by message.0) (taken_quiet message.0)) (lists net.things) net.next.list queue kept pools (holds_from agrees))
 crossed_out net message out.Up frames queue kept pools agrees = same_things net (after net (row.CrossOut message out.Up frames)) queue kept pools agrees refl refl
 
 -- rows on the first list in hand
@@ -117,11 +115,11 @@ passed_on net l way to queue kept pools agrees =
     let split : H (f.front ++ f.x ∷ f.back) = subst H f.is h in
     let y : LiveList = record f.x { stand = stand.Passed way to; crossed = None } in
     let moved : Holds ((f.front ++ f.back) ++ y ∷ []) net.next.list (queue ++ l ∷ []) kept pools =
-        holds_passed f.front f.x f.back f.rest y net.next.list l queue kept pools f.passing f.none f.some f.others refl f.same refl split in
+    holds_passed f.front f.x f.back f.rest y net.next.list l queue kept pools f.passing f.none f.some f.others refl f.same refl split in
     let A : ListNo → Type 0 = λ n. Agrees (after net (row.Pass n way to)) (queue ++ l ∷ []) kept pools in
     let there : A f.x.list =
-        agrees_from (after net (row.Pass f.x.list way to)) ((f.front ++ f.back) ++ y ∷ []) net.next.list (queue ++ l ∷ []) kept pools
-            (lists-passed way to net.things f.front f.x f.back f.is (absent_without f.front f.x f.back split.told.distinct)) refl moved in
+    agrees_from (after net (row.Pass f.x.list way to)) ((f.front ++ f.back) ++ y ∷ []) net.next.list (queue ++ l ∷ []) kept pools
+    (lists-passed way to net.things f.front f.x f.back f.is (absent_without f.front f.x f.back split.told.distinct)) refl moved in
     subst A (number_of f.x l f.same) there
 
 pub sent_on : (net : Net) (l : ListView) (way : PassWay) (to : Target) (queue kept : List ListView) (pools : List PoolView)
@@ -133,11 +131,11 @@ sent_on net l way to queue kept pools agrees =
     let split : H (f.front ++ f.x ∷ f.back) = subst H f.is h in
     let y : LiveList = record f.x { stand = stand.Passed way to; crossed = None } in
     let moved : Holds ((f.front ++ f.back) ++ y ∷ []) net.next.list (queue ++ l ∷ []) kept pools =
-        holds_sent f.front f.x f.back f.rest y net.next.list l queue kept pools f.passing f.none f.some f.others refl f.same refl split in
+    holds_sent f.front f.x f.back f.rest y net.next.list l queue kept pools f.passing f.none f.some f.others refl f.same refl split in
     let A : ListNo → Type 0 = λ n. Agrees (after net (row.Pass n way to)) (queue ++ l ∷ []) kept pools in
     let there : A f.x.list =
-        agrees_from (after net (row.Pass f.x.list way to)) ((f.front ++ f.back) ++ y ∷ []) net.next.list (queue ++ l ∷ []) kept pools
-            (lists-passed way to net.things f.front f.x f.back f.is (absent_without f.front f.x f.back split.told.distinct)) refl moved in
+    agrees_from (after net (row.Pass f.x.list way to)) ((f.front ++ f.back) ++ y ∷ []) net.next.list (queue ++ l ∷ []) kept pools
+    (lists-passed way to net.things f.front f.x f.back f.is (absent_without f.front f.x f.back split.told.distinct)) refl moved in
     subst A (number_of f.x l f.same) there
 
 pub kept_here : (net : Net) (l : ListView) (queue kept : List ListView) (pools : List PoolView)
@@ -149,11 +147,11 @@ kept_here net l queue kept pools agrees =
     let split : H (f.front ++ f.x ∷ f.back) = subst H f.is h in
     let y : LiveList = record f.x { last = Miniport; stand = stand.Kept Miniport } in
     let moved : Holds ((f.front ++ f.back) ++ y ∷ []) net.next.list queue (kept ++ l ∷ []) pools =
-        holds_kept f.front f.x f.back f.rest y net.next.list l queue kept pools f.passing f.none f.some f.others refl f.same refl split in
+    holds_kept f.front f.x f.back f.rest y net.next.list l queue kept pools f.passing f.none f.some f.others refl f.same refl split in
     let A : ListNo → Type 0 = λ n. Agrees (after net (row.Keep n Miniport)) queue (kept ++ l ∷ []) pools in
     let there : A f.x.list =
-        agrees_from (after net (row.Keep f.x.list Miniport)) ((f.front ++ f.back) ++ y ∷ []) net.next.list queue (kept ++ l ∷ []) pools
-            (lists-kept Miniport net.things f.front f.x f.back f.is (absent_without f.front f.x f.back split.told.distinct)) refl moved in
+    agrees_from (after net (row.Keep f.x.list Miniport)) ((f.front ++ f.back) ++ y ∷ []) net.next.list queue (kept ++ l ∷ []) pools
+    (lists-kept Miniport net.things f.front f.x f.back f.is (absent_without f.front f.x f.back split.told.distinct)) refl moved in
     subst A (number_of f.x l f.same) there
 
 -- the list is issued and passed on
@@ -172,9 +170,9 @@ issued net l config way to queue kept pools b pool agrees within issues number o
     let K : LiveList → Type 0 = λ k. k.list.0 ≡ l.label.number.0 → ⊥ in
     let absent : All K (ls ++ []) = All-append K ls [] (All-weaker (IsBelow net.next.list) K (λ k low e. omega (arith, low, e, is_next)) ls h.told.below) (All-nil K) in
     let moved : Holds (ls ++ y ∷ []) (net.next.list + 1) (queue ++ l ∷ []) kept (slice_set pools b pool) =
-        holds_issued ls y net.next.list l queue kept pools b pool is_next refl refl owner within issues h in
+    holds_issued ls y net.next.list l queue kept pools b pool is_next refl refl owner within issues h in
     agrees_from (after first (row.Pass l.label.number way to)) (ls ++ y ∷ []) (net.next.list + 1) (queue ++ l ∷ []) kept (slice_set pools b pool)
-        (lists-passed way to first.things ls x [] there absent ∙ ap (λ k. k ++ y ∷ []) (append-nil ls)) refl moved
+    (lists-passed way to first.things ls x [] there absent ∙ ap (λ k. k ++ y ∷ []) (append-nil ls)) refl moved
 
 -- given to the miniport and kept there
 pub given_kept : (net : Net) (l : ListView) (m : ModuleId) (handler : Handler) (queue kept : List ListView) (pools : List PoolView)
@@ -191,7 +189,7 @@ turned net l m handler by status way to queue kept pools agrees =
     let first : Net = after net (row.Give l.label.number m handler) in
     let second : Net = after first (row.TurnBack l.label.number by status) in
     passed_on second l way to queue kept pools
-        (turned_back first l.label.number by status (l ∷ queue) kept pools (given net l.label.number m handler (l ∷ queue) kept pools agrees))
+    (turned_back first l.label.number by status (l ∷ queue) kept pools (given net l.label.number m handler (l ∷ queue) kept pools agrees))
 
 -- given to a module that passes it on
 pub given_on : (net : Net) (l : ListView) (m : ModuleId) (handler : Handler) (way : PassWay) (to : Target) (queue kept : List ListView) (pools : List PoolView)
@@ -210,11 +208,11 @@ homed net l owner status queue kept pools b pool agrees of within frees =
     let H : List LiveList → Type 0 = λ k. Holds k net.next.list (l ∷ queue) kept pools in
     let split : H (f.front ++ f.x ∷ f.back) = subst H f.is h in
     let moved : Holds (f.front ++ f.back) net.next.list queue kept (slice_set pools b pool) =
-        holds_homed f.front f.x f.back f.rest net.next.list l queue kept pools b pool f.passing f.none f.some f.others f.same of within frees split in
+    holds_homed f.front f.x f.back f.rest net.next.list l queue kept pools b pool f.passing f.none f.some f.others f.same of within frees split in
     let A : ListNo → Type 0 = λ n. Agrees (after net (row.Home n owner status)) queue kept (slice_set pools b pool) in
     let there : A f.x.list =
-        agrees_from (after net (row.Home f.x.list owner status)) (f.front ++ f.back) net.next.list queue kept (slice_set pools b pool)
-            (lists-without_one net.things f.front f.x f.back f.is (absent_without f.front f.x f.back split.told.distinct)) refl moved in
+    agrees_from (after net (row.Home f.x.list owner status)) (f.front ++ f.back) net.next.list queue kept (slice_set pools b pool)
+    (lists-without_one net.things f.front f.x f.back f.is (absent_without f.front f.x f.back split.told.distinct)) refl moved in
     subst A (number_of f.x l f.same) there
 
 -- the miniport transmits its oldest list and passes it on

@@ -1,16 +1,15 @@
 -- What the lists in hand tell of the state.
-use Rattle.std.proofs.Common.{◌≡◌, ◌↔◌, ℕ, ◌<◌, ◌==◌, Bool, true, false, if◌then◌else◌, IsTrue, List, [], ◌∷◌, ◌++◌, Option, Some, None, map, filter, find, length, refl, sym, ap, ◌∙◌, subst, All, eqb-true, eq-eqb}
+use Rattle.std.proofs.Common.{◌≡◌, ◌↔◌, ℕ, ◌<◌, ◌==◌, Bool, true, false, if◌then◌else◌, IsTrue, List, [], ◌∷◌, ◌++◌, Some, None, map, filter, find, length, refl, sym, ap, ◌∙◌, subst, All, eqb-true, eq-eqb}
 use Rattle.std.proofs.lemmas.List.{length-map}
 use Rattle.std.proofs.lemmas.List.Elements.{All-head, All-tail}
-use Rattle.ndis_base.specs.declared.ListNo.{ListNo}
 use Rattle.ndis_base.specs.declared.ModuleId.TheVariants.{Miniport, Binding}
-use Rattle.buffer_pools.specs.Views.{ListView, PoolView, IsOf, live_count}
+use Rattle.buffer_pools.specs.Views.{ListView, PoolView, live_count}
 use Rattle.stack_rules.specs.declared.LiveList.{LiveList}
 use Rattle.stack_rules.specs.declared.Thing.{Thing}
 use Rattle.stack_rules.specs.declared.Thing.TheVariants as thing
 use Rattle.stack_rules.specs.Net.{Net, lists, list_of}
-use Rattle.stack_rules.specs.Places.{is_away, is_passed, is_kept_by, kept_lists, agenda, agenda_first, owned, pool_of, is_full}
-use Rattle.held_lists.specs.Held.{Common, in_hand, in_state, away, kept_below, is_absent, no_pool, IsHoused, Agrees}
+use Rattle.stack_rules.specs.Places.{is_away, is_passed, is_kept_by, agenda, agenda_first, pool_of, is_full}
+use Rattle.held_lists.specs.Held.{Common, in_hand, in_state, away, kept_below, is_absent, IsHoused, Agrees}
 use Rattle.held_lists.proofs.Splits.{find_first, find_none, all_left, all_right}
 use Rattle.held_lists.proofs.Numbers.{found_split, absent_without}
 use Rattle.held_lists.proofs.Holds.{Found, found_first, none_in, holds_from, passes, stays}
