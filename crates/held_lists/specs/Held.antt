@@ -1,7 +1,7 @@
 -- The lists that a stack and its miniport hold: the ones on their way, in the order in which they are
 -- worked, and the ones that the miniport keeps, the oldest first. They agree with the live lists of the
 -- state and with the pools of the bindings.
-use Rattle.std.specs.Prelude.{◌≡◌, ℕ, ◌<◌, ◌+◌, Bool, true, List, [], ◌∷◌, ◌++◌, Option, None, length, map, filter, slice_index_or, All}
+use Rattle.std.specs.Prelude.{◌≡◌, ℕ, ◌<◌, List, [], ◌∷◌, ◌++◌, Option, length, map, filter, slice_index_or, All}
 use Rattle.ndis_base.specs.declared.ListNo.{ListNo}
 use Rattle.ndis_base.specs.declared.ModuleId.{ModuleId}
 use Rattle.ndis_base.specs.declared.ModuleId.TheVariants.{Miniport, Binding}
