@@ -1,5 +1,5 @@
 -- The state of a stack of the built form, between turns and while rows are written.
-use Rattle.std.specs.Prelude.{◌≡◌, ℕ, ◌+◌, ◌*◌, ◌<◌, ◌≤◌, Bool, true, false, List, [], ◌∷◌, Option, Some, None, length, map, replicate, sum_by, slice_index_or, All, if◌then◌else◌, ◌⊎◌}
+use Rattle.std.specs.Prelude.{◌≡◌, ℕ, ◌+◌, ◌*◌, ◌<◌, ◌≤◌, Bool, true, false, List, [], ◌∷◌, Option, Some, None, length, map, replicate, sum_by, slice_index_or, All, AllPairs, if◌then◌else◌, ◌⊎◌, ◌≢◌}
 use Rattle.ndis_base.specs.declared.ModuleId.{ModuleId}
 use Rattle.ndis_base.specs.declared.ModuleId.TheVariants.{Miniport, Filter, Binding}
 use Rattle.ndis_base.specs.declared.ModuleState.{ModuleState}
@@ -83,6 +83,10 @@ PhaseFits net phase.Pausing =
     ((net.modules.miniport ≡ state.Running) × bindings_are net state.Pausing)
         ⊎ ((net.modules.miniport ≡ state.Pausing) × (bindings_are net state.Paused × (net.things ≡ [])))
 
+-- two live lists have different numbers
+abbrev pub OtherNumber : LiveList → LiveList → Type 0
+OtherNumber k l = k.list.0 ≢ l.list.0
+
 -- the state between turns
 pub record IsFirst (net : Net) : Type 0 where
   pub head : IsFirstHead net.head
@@ -90,6 +94,8 @@ pub record IsFirst (net : Net) : Type 0 where
   pub filters : net.modules.filters ≡ []
   pub requests : net.requests ≡ []
   pub things : All (IsFirstThing net.head) net.things
+  pub apart : AllPairs OtherNumber (lists net.things)
+  pub below : All (λ l. l.list.0 < net.next.list) (lists net.things)
   pub phase : PhaseFits net net.phase
   pub counts : (length net.port.answers_by ≡ length net.head.bindings) × (length net.port.delivers_by ≡ length net.head.bindings)
 
