@@ -1,2 +1,4 @@
 pub mod Start
 pub mod Lists
+pub mod Targets
+pub mod States
