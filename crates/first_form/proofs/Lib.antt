@@ -2,3 +2,4 @@ pub mod Start
 pub mod Lists
 pub mod Targets
 pub mod States
+pub mod Moves
