@@ -3,3 +3,4 @@ pub mod Lists
 pub mod Targets
 pub mod States
 pub mod Moves
+pub mod Phases
