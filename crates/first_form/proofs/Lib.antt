@@ -4,3 +4,5 @@ pub mod Targets
 pub mod States
 pub mod Moves
 pub mod Phases
+pub mod Rings
+pub mod Kept
