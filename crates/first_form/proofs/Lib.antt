@@ -6,3 +6,4 @@ pub mod Moves
 pub mod Phases
 pub mod Rings
 pub mod Kept
+pub mod Outcomes

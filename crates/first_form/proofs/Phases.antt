@@ -95,14 +95,19 @@ top_rows net e = ap (rows_in 0) (floors_are net.modules e)
 pub bottom_rows : (net : Net) → net.modules.order ≡ [] → paused_rows net 1 ≡ state_row state.Paused Miniport ∷ row.Phase (of.Stack phase.Paused) ∷ []
 bottom_rows net e = ap (rows_in 1) (floors_are net.modules e)
 
-pub top_paused : (net : Net) → IsFirst net → net.modules.miniport ≡ state.Running → bindings_are net state.Pausing → net.phase ≡ phase.Pausing → net.things ≡ [] → IsFirst (after_rows net (paused_rows net 0))
-top_paused net h m b p none =
+-- the state after a pause at the bindings
+pub top_after : (net : Net) → IsFirst net →
+    after_rows net (paused_rows net 0) ≡ after_rows (with_bindings net (replicate (length net.modules.bindings) state.Paused)) (state_row state.Pausing Miniport ∷ [])
+top_after net h =
     let rows : List Row = state_rows (state.Paused ∷ []) (binding_ids 0 net.modules.bindings) in
     let low : List Row = state_row state.Pausing Miniport ∷ [] in
-    let is : after_rows net (paused_rows net 0) ≡ after_rows (with_bindings net (replicate (length net.modules.bindings) state.Paused)) low =
-        ap (after_rows net) (top_rows net h.order) ∙ after_rows-append net rows low ∙ ap (λ n. after_rows n low) (all_take net state.Paused) in
+    ap (after_rows net) (top_rows net h.order) ∙ after_rows-append net rows low ∙ ap (λ n. after_rows n low) (all_take net state.Paused)
+
+pub top_paused : (net : Net) → IsFirst net → net.modules.miniport ≡ state.Running → bindings_are net state.Pausing → net.phase ≡ phase.Pausing → net.things ≡ [] → IsFirst (after_rows net (paused_rows net 0))
+top_paused net h m b p none =
+    let low : List Row = state_row state.Pausing Miniport ∷ [] in
     let next : Net = after_rows (with_bindings net (replicate (length net.modules.bindings) state.Paused)) low in
-    subst IsFirst (sym is) (record {
+    subst IsFirst (sym (top_after net h)) (record {
       head = h.head;
       order = h.order;
       filters = h.filters;

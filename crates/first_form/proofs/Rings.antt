@@ -189,9 +189,6 @@ drain_rows_are net h =
     passed_by_all (returns_all net) (binding_numbers net.head) _ (λ n. returns_nothing net n h)
     ∙ ap (λ fs. first_rows (map (passes_all net) fs ++ empties_ring net ∷ [])) h.order
 
-empties_of : Net → List LiveList → List Row
-empties_of net ls = empties net (first_of ls)
-
 ring_rows : (net : Net) (ls : List LiveList) → IsFirst net → kept_lists net Miniport ≡ ls → empties_ring net ≡ empties net (first_of ls)
 ring_rows net ls h e = ap (λ ks. empties net (first_of ks)) (ready_are net Miniport h ∙ e)
 
