@@ -7,3 +7,5 @@ pub mod Phases
 pub mod Rings
 pub mod Kept
 pub mod Outcomes
+pub mod Fronts
+pub mod Progress
