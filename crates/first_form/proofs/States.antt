@@ -1,5 +1,5 @@
 -- All bindings take a state.
-use Rattle.std.proofs.Common.{◌≡◌, ℕ, zero, suc, ◌+◌, ◌<◌, ◌==◌, Bool, true, false, cond, ◌&&◌, List, [], ◌∷◌, ◌++◌, length, set, get_or, replicate, refl, arith, ap, sym, subst, append_assoc, ◌∙◌}
+use Rattle.std.proofs.Common.{◌≡◌, ℕ, zero, suc, ◌+◌, ◌<◌, ◌==◌, Bool, true, false, cond, ◌&&◌, List, [], ◌∷◌, ◌++◌, length, set, get_or, replicate, refl, arith, ap, sym, subst, append_assoc, append-nil, take, map, ◌∙◌}
 use Rattle.std.specs.List.{list_all}
 use Rattle.std.proofs.lemmas.List.{set_at, get_or_at, length_push, length-replicate}
 use Rattle.ndis_base.specs.declared.ModuleId.{ModuleId}
@@ -66,3 +66,33 @@ some_fail net test s zero t some is = absurd (omega arith)
 some_fail net test s (suc n) t some is =
     let here : get_or net.modules.bindings 0 state.Unbound ≡ s = ap (λ states. get_or states 0 state.Unbound) is in
     ap (λ states. all_are test net (binding_ids 0 states)) is ∙ rw (here, t)
+
+-- the modules depend on how many states there are alone
+pub binding_ids-same : (b : ℕ) (xs ys : List ModuleState) → length xs ≡ length ys → binding_ids b xs ≡ binding_ids b ys
+binding_ids-same b [] [] e = refl
+binding_ids-same b [] (y ∷ ys) e = absurd (omega arith)
+binding_ids-same b (x ∷ xs) [] e = absurd (omega arith)
+binding_ids-same b (x ∷ xs) (y ∷ ys) e = ap (λ ms. Binding b ∷ ms) (binding_ids-same (b + 1) xs ys (omega arith))
+
+more_from : (ss xs : List ModuleState) (b i : ℕ) → i < length xs →
+    state_rows ss (binding_ids b (take (i + 1) xs)) ≡ state_rows ss (binding_ids b (take i xs)) ++ map (λ s. state_row s (Binding (b + i))) ss
+more_from ss [] b i h = absurd (omega arith)
+more_from ss (x ∷ xs) b zero h =
+    let at : b ≡ b + 0 = omega arith in
+    append-nil _ ∙ ap (λ k. map (λ s. state_row s (Binding k)) ss) at
+more_from ss (x ∷ xs) b (suc i) h =
+    let here : List Row = map (λ s. state_row s (Binding b)) ss in
+    let rest : state_rows ss (binding_ids (b + 1) (take (i + 1) xs)) ≡ state_rows ss (binding_ids (b + 1) (take i xs)) ++ map (λ s. state_row s (Binding (b + 1 + i))) ss = more_from ss xs (b + 1) i (omega arith) in
+    let next : suc i + 1 ≡ suc (i + 1) = omega arith in
+    let at : b + 1 + i ≡ b + suc i = omega arith in
+    ap (λ k. state_rows ss (binding_ids b (take k (x ∷ xs)))) next
+    ∙ ap (λ rows. here ++ rows) rest
+    ∙ sym (append_assoc here (state_rows ss (binding_ids (b + 1) (take i xs))) _)
+    ∙ ap (λ k. (here ++ state_rows ss (binding_ids (b + 1) (take i xs))) ++ map (λ s. state_row s (Binding k)) ss) at
+
+-- the rows of one more binding, in order
+pub state_rows_more : (ss xs : List ModuleState) (i : ℕ) → i < length xs →
+    state_rows ss (binding_ids 0 (take (i + 1) xs)) ≡ state_rows ss (binding_ids 0 (take i xs)) ++ map (λ s. state_row s (Binding i)) ss
+state_rows_more ss xs i h =
+    let at : 0 + i ≡ i = omega arith in
+    more_from ss xs 0 i h ∙ ap (λ k. state_rows ss (binding_ids 0 (take i xs)) ++ map (λ s. state_row s (Binding k)) ss) at
