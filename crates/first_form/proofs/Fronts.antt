@@ -1,5 +1,5 @@
 -- The first list on its way, and the first in the ring.
-use Rattle.std.proofs.Common.{◌≡◌, ℕ, ◌<◌, ◌≤◌, ◌==◌, Bool, true, false, List, [], ◌∷◌, Option, Some, None, length, filter, refl, arith, ap, sym, subst, ◌∙◌, ◌⊎◌}
+use Rattle.std.proofs.Common.{◌≡◌, ℕ, ◌<◌, true, false, List, ◌∷◌, Some, length, refl, subst, ◌⊎◌}
 use Rattle.ndis_base.specs.declared.ModuleId.{ModuleId}
 use Rattle.ndis_base.specs.declared.ModuleId.TheVariants.{Miniport, Binding}
 use Rattle.ndis_base.specs.declared.ListStatus.{ListStatus}
@@ -8,14 +8,13 @@ use Rattle.journal_types.specs.declared.Target.TheVariants.{Module}
 use Rattle.stack_rules.specs.declared.Stand.{Stand}
 use Rattle.stack_rules.specs.declared.Stand.TheVariants as stand
 use Rattle.stack_rules.specs.declared.LiveList.{LiveList}
-use Rattle.stack_rules.specs.declared.Thing.{Thing}
 use Rattle.stack_rules.specs.declared.Thing.TheVariants as thing
 use Rattle.stack_rules.specs.Net.{Net, lists, list_of}
 use Rattle.stack_rules.specs.Places.{agenda_first, kept_lists, waits, is_passed, is_kept_by}
 use Rattle.first_form.specs.First.{IsFirst, IsFirstList}
-use Rattle.first_form.proofs.Lists.{found_fits, IsFound, IsFirstAway, first_away, IsKeptIn, first_kept_list, some_same}
+use Rattle.first_form.proofs.Lists.{found_fits, IsFound, IsFirstAway, first_away, IsKeptIn, first_kept_list}
 use Rattle.first_form.proofs.Moves.{fit_of}
-use Rattle.first_form.proofs.Rings.{lists_away, first_on_way, FirstPlaces, first_places, none_waits}
+use Rattle.first_form.proofs.Rings.{lists_away, first_on_way, first_places, none_waits}
 
 -- the first list on its way
 pub record IsNextAway (net : Net) (l : LiveList) : Type 0 where

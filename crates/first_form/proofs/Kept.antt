@@ -1,24 +1,19 @@
 -- A turn of the first form leaves a state of the first form.
-use Rattle.std.proofs.Common.{◌≡◌, ℕ, zero, suc, ◌+◌, ◌<◌, ◌==◌, ◌&&◌, ◌||◌, Bool, true, false, cond, List, [], ◌∷◌, ◌++◌, Option, Some, None, length, refl, arith, ap, ap₂, sym, subst, ◌∙◌, inl, inr, ◌⊎◌, nat_lt}
+use Rattle.std.proofs.Common.{◌≡◌, ℕ, ◌+◌, ◌<◌, ◌==◌, ◌&&◌, ◌||◌, Bool, true, List, [], ◌∷◌, ◌++◌, Option, Some, None, length, refl, arith, ap, ap₂, sym, subst, ◌∙◌, inl, inr, ◌⊎◌}
 use Rattle.std.proofs.lemmas.Bool.Decides.{nat_tests}
 use Rattle.std.proofs.lemmas.List.{nil_from_length}
-use Rattle.ndis_base.specs.declared.ModuleId.{ModuleId}
-use Rattle.ndis_base.specs.declared.ModuleId.TheVariants.{Miniport, Filter, Binding}
-use Rattle.ndis_base.specs.declared.ModuleState.TheVariants as state
+use Rattle.ndis_base.specs.declared.ModuleId.TheVariants.{Miniport, Binding}
 use Rattle.ndis_base.specs.declared.Phase.{Phase}
 use Rattle.ndis_base.specs.declared.Phase.TheVariants as phase
 use Rattle.ndis_base.specs.declared.Direction.TheVariants as direction
 use Rattle.ndis_base.specs.declared.Origin.TheVariants as origin
 use Rattle.journal_types.specs.declared.StackHead.{StackHead}
 use Rattle.journal_types.specs.declared.PassWay.TheVariants as way
-use Rattle.journal_types.specs.declared.Target.{Target}
-use Rattle.journal_types.specs.declared.Target.TheVariants.{Module, Bindings}
-use Rattle.journal_types.specs.declared.Row.{Row}
+use Rattle.journal_types.specs.declared.Target.TheVariants.{Module}
 use Rattle.journal_types.specs.declared.Row.TheVariants as row
 use Rattle.journal_types.specs.declared.Event.{Event}
 use Rattle.journal_types.specs.declared.Event.TheVariants as event
 use Rattle.journal_types.specs.declared.Reply.{Reply}
-use Rattle.journal_types.specs.declared.Reply.TheVariants as reply
 use Rattle.journal_types.specs.declared.Turn.{Turn}
 use Rattle.stack_rules.specs.declared.Choice.{Choice}
 use Rattle.stack_rules.specs.declared.Stand.TheVariants as stand
@@ -26,14 +21,13 @@ use Rattle.stack_rules.specs.declared.LiveList.{LiveList}
 use Rattle.stack_rules.specs.declared.Thing.{Thing}
 use Rattle.stack_rules.specs.declared.Thing.TheVariants as thing
 use Rattle.stack_rules.specs.Tests.{phase_is_halted, phase_is_paused, phase_is_running, phase_is_pausing, phase_is_restarting}
-use Rattle.stack_rules.specs.Net.{Net, Port, Counters, passed, after_rows, after_turn, told}
+use Rattle.stack_rules.specs.Net.{Net, Counters, passed, after_rows, after_turn, told}
 use Rattle.stack_rules.specs.Places.{agenda_first, is_full, outstanding}
-use Rattle.stack_rules.specs.Targets.{next_down}
 use Rattle.stack_rules.specs.Outcome.{Outcome, root, list_no}
 use Rattle.stack_rules.specs.Conditions.{may_ask, has_binding}
-use Rattle.stack_rules.specs.Sends.{sent, send_outcome, first_in_ring, transmit_of, transmit_outcome}
+use Rattle.stack_rules.specs.Sends.{sent, transmit_outcome}
 use Rattle.stack_rules.specs.Pumps.{pump_of, pump_outcome, request_pump}
-use Rattle.stack_rules.specs.Pauses.{initialize_outcome, begin_outcome, pause_at, pause_outcome, first_unpaused, running_floors, restart_at, restart_outcome, halt_items, halt_outcome}
+use Rattle.stack_rules.specs.Pauses.{pause_at, first_unpaused, running_floors, restart_at, halt_items}
 use Rattle.stack_rules.specs.Sound.{outcome, Next}
 use Rattle.first_form.specs.First.{IsFirst, IsFirstList, IsFirstEvent, PhaseFits}
 use Rattle.first_form.proofs.Lists.{found, Fit, Fit-push, Fit-next, next_absent, found-push, without-push, by_test, firsts_from, below_from, apart_from}
@@ -107,8 +101,8 @@ sent_is net binding cancel frames h =
     let issued : LiveList = record (sent_list net binding cancel frames) { stand = stand.Unplaced } in
     let absent : found net.next.list net.things ≡ None = next_absent net.head net.next.list net.things (fit_of net h) in
     let things : passed net.next.list way.Down (Module Miniport) (net.things ++ thing.List issued ∷ []) ≡ net.things ++ thing.List (sent_list net binding cancel frames) ∷ [] =
-        passed_is net.next.list way.Down (Module Miniport) (net.things ++ thing.List issued ∷ []) issued (found-push net.things issued absent)
-        ∙ ap (λ ts. ts ++ thing.List (sent_list net binding cancel frames) ∷ []) (without-push net.things issued absent) in
+    passed_is net.next.list way.Down (Module Miniport) (net.things ++ thing.List issued ∷ []) issued (found-push net.things issued absent)
+    ∙ ap (λ ts. ts ++ thing.List (sent_list net binding cancel frames) ∷ []) (without-push net.things issued absent) in
     ap (after_rows net) (sent_rows_are net binding cancel frames h)
     ∙ ap (λ ts. record net { things = ts; next = record net.next { list = net.next.list + 1 } }) things
 
@@ -159,6 +153,7 @@ pause_kept net h p = by_place (fits_at net phase.Pausing h is)
   where
     is : net.phase ≡ phase.Pausing
     is = when_pausing net.phase p
+
     by_place : PhaseFits net phase.Pausing → Keeps net (pause_at net (first_unpaused net))
     by_place (inl f) =
         subst (λ i. Keeps net (pause_at net i)) (sym (at_top net h f.1))

@@ -1,8 +1,8 @@
 -- The live lists of a stack of the first form: which is found by its number, and what a list's move leaves.
-use Rattle.std.proofs.Common.{◌≡◌, ◌≢◌, ℕ, zero, suc, ◌+◌, ◌==◌, ◌<◌, ◌≤◌, not, Bool, true, false, cond, List, [], ◌∷◌, ◌++◌, Option, Some, None, length, filter, find, sum_by, All, AllPairs, refl, arith, ap, sym, subst, get_or, map, is_some}
+use Rattle.std.proofs.Common.{◌≡◌, ◌≢◌, ℕ, zero, suc, ◌+◌, ◌==◌, ◌<◌, not, Bool, true, false, cond, List, [], ◌∷◌, ◌++◌, Option, Some, None, filter, find, sum_by, All, AllPairs, refl, arith, ap, sym, subst}
 use Rattle.std.proofs.lemmas.Bool.Decides.{nat_tests}
 use Rattle.std.proofs.lemmas.List.Elements.{All-nil, All-cons, All-head, All-tail}
-use Rattle.std.proofs.lemmas.List.Sums.{sum_by-cons, sum_by_push}
+use Rattle.std.proofs.lemmas.List.Sums.{sum_by-cons}
 use Rattle.ndis_base.specs.declared.ModuleId.{ModuleId}
 use Rattle.journal_types.specs.declared.StackHead.{StackHead}
 use Rattle.stack_rules.specs.declared.LiveList.{LiveList}
@@ -224,12 +224,14 @@ pub Fit-from : (head : StackHead) (next : ℕ) (ts : List Thing) → All (IsFirs
 Fit-from head next [] h a b = tt
 Fit-from head next (thing.Status s ∷ ts) h a b = All-head (IsFirstThing head) (thing.Status s) ts h
 Fit-from head next (thing.Answer s ∷ ts) h a b = All-head (IsFirstThing head) (thing.Answer s) ts h
-Fit-from head next (thing.List x ∷ ts) h a b =
-    (record {
-      first = All-head (IsFirstThing head) (thing.List x) ts h;
-      below = All-head (λ l. l.list.0 < next) x (lists ts) b;
-      absent = absent_from x.list.0 ts (λ k d l. a 0 (suc k) d (omega arith) (omega arith));
-    }, Fit-from head next ts (All-tail (IsFirstThing head) (thing.List x) ts h) (λ i j d l w. a (suc i) (suc j) d (omega arith) (omega arith)) (All-tail (λ l. l.list.0 < next) x (lists ts) b))
+Fit-from head next (thing.List x ∷ ts) h a b = (
+  record {
+    first = All-head (IsFirstThing head) (thing.List x) ts h;
+    below = All-head (λ l. l.list.0 < next) x (lists ts) b;
+    absent = absent_from x.list.0 ts (λ k d l. a 0 (suc k) d (omega arith) (omega arith));
+  },
+  Fit-from head next ts (All-tail (IsFirstThing head) (thing.List x) ts h) (λ i j d l w. a (suc i) (suc j) d (omega arith) (omega arith)) (All-tail (λ l. l.list.0 < next) x (lists ts) b),
+)
 
 pub firsts_from : (head : StackHead) (next : ℕ) (ts : List Thing) → Fit head next ts → All (IsFirstThing head) ts
 firsts_from head next [] h = All-nil (IsFirstThing head)

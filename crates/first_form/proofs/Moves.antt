@@ -1,5 +1,5 @@
 -- What a pump and a transmission leave: one list moves on or is home, and fewer steps are left.
-use Rattle.std.proofs.Common.{◌≡◌, ℕ, ◌+◌, ◌<◌, ◌==◌, ◌&&◌, Bool, true, false, cond, List, [], ◌∷◌, ◌++◌, Option, Some, None, length, filter, find, sum_by, refl, arith, ap, ap₂, sym, subst, eq-eqb, ◌∙◌, inl, inr, ◌⊎◌}
+use Rattle.std.proofs.Common.{◌≡◌, ℕ, ◌+◌, ◌<◌, Bool, true, cond, List, [], ◌∷◌, ◌++◌, Some, None, length, sum_by, refl, arith, ap, ap₂, sym, subst, eq-eqb, ◌∙◌, inl, inr}
 use Rattle.std.proofs.lemmas.List.Sums.{sum_by_push}
 use Rattle.ndis_base.specs.declared.ModuleId.{ModuleId}
 use Rattle.ndis_base.specs.declared.ModuleId.TheVariants.{Miniport, Filter, Binding}
@@ -8,7 +8,6 @@ use Rattle.ndis_base.specs.declared.ListStatus.{ListStatus}
 use Rattle.ndis_base.specs.declared.ListStatus.TheVariants.{Success, Resources}
 use Rattle.ndis_base.specs.declared.Phase.{Phase}
 use Rattle.ndis_base.specs.declared.Phase.TheVariants as phase
-use Rattle.journal_types.specs.declared.StackHead.{StackHead}
 use Rattle.journal_types.specs.declared.PassWay.{PassWay}
 use Rattle.journal_types.specs.declared.PassWay.TheVariants as way
 use Rattle.journal_types.specs.declared.Target.{Target}
@@ -21,14 +20,14 @@ use Rattle.stack_rules.specs.declared.Stand.TheVariants as stand
 use Rattle.stack_rules.specs.declared.LiveList.{LiveList}
 use Rattle.stack_rules.specs.declared.Thing.{Thing}
 use Rattle.stack_rules.specs.declared.Thing.TheVariants as thing
-use Rattle.stack_rules.specs.Tests.{same_module, is_loop}
-use Rattle.stack_rules.specs.Net.{Net, Port, lists, without, changed, had_by, at_end, kept, kept_by, passed, passed_to, after, after_rows}
+use Rattle.stack_rules.specs.Tests.{same_module}
+use Rattle.stack_rules.specs.Net.{Net, Port, without, changed, had_by, at_end, kept, kept_by, passed, passed_to, after, after_rows}
 use Rattle.stack_rules.specs.Places.{position, is_passed, is_kept_by, kept_lists, agenda_first}
 use Rattle.stack_rules.specs.Targets.{homeward}
 use Rattle.stack_rules.specs.Sends.{ring_is_full, miniport_rows, looped, transmitted}
 use Rattle.stack_rules.specs.Dones.{home_rows, released, homeward_rows}
 use Rattle.stack_rules.specs.Pumps.{moved_rows, thing_rows}
-use Rattle.first_form.specs.First.{IsFirst, IsFirstList, IsFirstStand, IsFirstThing, PhaseFits, thing_steps, steps_left, steps_to_go, pause_to_go, floors_to_go}
+use Rattle.first_form.specs.First.{IsFirst, IsFirstList, IsFirstStand, PhaseFits, thing_steps, steps_left, steps_to_go, pause_to_go, floors_to_go}
 use Rattle.first_form.proofs.Lists.{found, Fit, Fit-from, Fit-push, Fit-without, gone-without, found-changed, without-changed, steps-without, found_fits, IsFound, IsFirstAway, first_away, IsKeptIn, first_kept_list, by_test, firsts_from, below_from, apart_from}
 use Rattle.first_form.proofs.Targets.{homeward_is}
 
@@ -87,12 +86,12 @@ miniport_advances net l h first f three =
     let given = after net (row.Give l.list Miniport handler.Send) in
     by_test (λ rows. Advances net (after_rows given rows)) (ring_is_full net) _ _
     (λ _. subst (λ (r : Row). Advances net (after_rows given (row.TurnBack l.list Miniport Resources ∷ r ∷ []))) (sym (homeward_is net.head net.modules l (position net.modules.order Miniport) Resources first h.order))
-      (at_other net net.port _ _ (turned_is l.list.0 Miniport (way.Done Resources) (Module l.owner) net.things l f)
-        (moves_on net l (record l { last = Miniport; stand = stand.Passed (way.Done Resources) (Module l.owner); crossed = None }) net.port.sent h f refl
-          (record { binding = first.binding; owner = first.owner; within = first.within; down = first.down; root = first.root; here = refl; place = refl }) (omega arith))))
+    (at_other net net.port _ _ (turned_is l.list.0 Miniport (way.Done Resources) (Module l.owner) net.things l f)
+    (moves_on net l (record l { last = Miniport; stand = stand.Passed (way.Done Resources) (Module l.owner); crossed = None }) net.port.sent h f refl
+    (record { binding = first.binding; owner = first.owner; within = first.within; down = first.down; root = first.root; here = refl; place = refl }) (omega arith))))
     (λ _. at_other net net.port _ _ (kept_is l.list.0 Miniport net.things l f)
-        (moves_on net l (record l { last = Miniport; stand = stand.Kept Miniport }) net.port.sent h f refl
-          (record { binding = first.binding; owner = first.owner; within = first.within; down = first.down; root = first.root; here = first.here; place = tt }) (omega arith)))
+    (moves_on net l (record l { last = Miniport; stand = stand.Kept Miniport }) net.port.sent h f refl
+    (record { binding = first.binding; owner = first.owner; within = first.within; down = first.down; root = first.root; here = first.here; place = tt }) (omega arith)))
 
 pub same_module-self : (m : ModuleId) → same_module m m ≡ true
 same_module-self Miniport = refl
@@ -163,9 +162,9 @@ transmit_advances net l rest h e =
     let two : steps_left l.stand ≡ 2 = kept_steps Miniport l.stand is.kept in
     let wired : Port = record net.port { sent = net.port.sent + length l.frames } in
     subst (λ rows. Advances net (after_rows net rows)) (sym (transmitted_is net l h first))
-      (at_other net wired _ _ (passed_is l.list.0 (way.Done Success) (Module l.owner) net.things l is.found)
-        (moves_on net l (record l { stand = stand.Passed (way.Done Success) (Module l.owner); crossed = None }) (net.port.sent + length l.frames) h is.found refl
-          (record { binding = first.binding; owner = first.owner; within = first.within; down = first.down; root = first.root; here = refl; place = refl }) (omega arith)))
+    (at_other net wired _ _ (passed_is l.list.0 (way.Done Success) (Module l.owner) net.things l is.found)
+    (moves_on net l (record l { stand = stand.Passed (way.Done Success) (Module l.owner); crossed = None }) (net.port.sent + length l.frames) h is.found refl
+    (record { binding = first.binding; owner = first.owner; within = first.within; down = first.down; root = first.root; here = refl; place = refl }) (omega arith)))
 
 -- such a state is of the first form too
 phase_moves : (net : Net) (things : List Thing) (port : Port) (p : Phase) → (net.things ≡ [] → ⊥) → PhaseFits net p → PhaseFits (record net { things = things; port = port }) p

@@ -1,10 +1,9 @@
 -- What each event of the first form answers and writes, at the states where it is asked.
-use Rattle.std.proofs.Common.{◌≡◌, ℕ, ◌+◌, ◌<◌, ◌==◌, ◌||◌, Bool, true, false, cond, List, [], ◌∷◌, ◌++◌, length, reverse, refl, arith, ap, ap₂, sym, subst, ◌∙◌, nat_lt}
+use Rattle.std.proofs.Common.{◌≡◌, ℕ, ◌+◌, ◌<◌, ◌==◌, ◌||◌, Bool, true, false, cond, List, [], ◌∷◌, length, refl, arith, ap, ap₂, ◌∙◌, nat_lt}
 use Rattle.std.proofs.lemmas.Bool.Decides.{nat_tests}
-use Rattle.ndis_base.specs.declared.ModuleId.{ModuleId}
-use Rattle.ndis_base.specs.declared.ModuleId.TheVariants.{Miniport, Filter, Binding}
+use Rattle.ndis_base.specs.declared.ModuleId.TheVariants.{Miniport}
 use Rattle.ndis_base.specs.declared.ListStatus.{ListStatus}
-use Rattle.ndis_base.specs.declared.ListStatus.TheVariants.{Success, Resources}
+use Rattle.ndis_base.specs.declared.ListStatus.TheVariants.{Resources}
 use Rattle.ndis_base.specs.declared.ModuleState.TheVariants as state
 use Rattle.ndis_base.specs.declared.Phase.TheVariants as phase
 use Rattle.journal_types.specs.declared.Handler.TheVariants as handler
@@ -26,11 +25,11 @@ use Rattle.stack_rules.specs.Targets.{homeward}
 use Rattle.stack_rules.specs.Outcome.{Outcome, answered, refused}
 use Rattle.stack_rules.specs.Sends.{ring_is_full, miniport_rows}
 use Rattle.stack_rules.specs.Pumps.{moved_rows, pump_outcome}
-use Rattle.stack_rules.specs.Pauses.{binding_ids, floors, state_row, state_rows, initialize_rows, initialize_outcome, begin_outcome, paused_reply, paused_rows, pause_at, pause_outcome, first_unpaused, running_floors, is_top, restart_rows, restart_at, restart_outcome, halt_items, halt_rows, halt_outcome}
-use Rattle.first_form.specs.First.{IsFirst, IsFirstList, PhaseFits, bindings_are}
+use Rattle.stack_rules.specs.Pauses.{binding_ids, state_rows, initialize_rows, initialize_outcome, begin_outcome, paused_reply, paused_rows, pause_at, pause_outcome, first_unpaused, running_floors, is_top, restart_rows, restart_at, restart_outcome, halt_rows, halt_outcome}
+use Rattle.first_form.specs.First.{IsFirst, IsFirstList, bindings_are}
 use Rattle.first_form.proofs.Targets.{homeward_is}
 use Rattle.first_form.proofs.Moves.{home_is}
-use Rattle.first_form.proofs.Phases.{floors_are, top_rows, bottom_rows, at_top, at_bottom, all_count, none_count, low_restart, high_restart, low_rows, high_rows, nothing_live}
+use Rattle.first_form.proofs.Phases.{floors_are, at_top, at_bottom, all_count, none_count, low_restart, high_restart, nothing_live}
 use Rattle.first_form.proofs.Rings.{lists_away, first_on_way, pump_works}
 
 -- an answer with these rows

@@ -1,13 +1,11 @@
 -- What initialising, pausing, restarting and halting leave.
-use Rattle.std.proofs.Common.{◌≡◌, ℕ, zero, suc, ◌+◌, ◌<◌, ◌==◌, ◌&&◌, ◌||◌, Bool, true, false, cond, List, [], ◌∷◌, ◌++◌, length, map, replicate, reverse, count_by, filter, refl, arith, ap, ap₂, sym, subst, ◌∙◌, inl, inr, ◌⊎◌, nat_lt, slice_index_or, All, if◌then◌else◌}
-use Rattle.std.proofs.lemmas.Bool.Decides.{nat_tests}
+use Rattle.std.proofs.Common.{◌≡◌, ℕ, ◌+◌, ◌==◌, ◌&&◌, ◌||◌, Bool, true, false, cond, List, [], ◌∷◌, ◌++◌, length, map, replicate, reverse, count_by, refl, arith, ap, ap₂, sym, subst, ◌∙◌, inl, inr, nat_lt, slice_index_or, if◌then◌else◌}
 use Rattle.std.proofs.lemmas.List.{length-replicate}
 use Rattle.std.proofs.lemmas.List.Sums.{sum_by-cons}
 use Rattle.ndis_base.specs.declared.ModuleId.{ModuleId}
 use Rattle.ndis_base.specs.declared.ModuleId.TheVariants.{Miniport, Filter, Binding}
 use Rattle.ndis_base.specs.declared.ModuleState.{ModuleState}
 use Rattle.ndis_base.specs.declared.ModuleState.TheVariants as state
-use Rattle.ndis_base.specs.declared.Phase.{Phase}
 use Rattle.ndis_base.specs.declared.Phase.TheVariants as phase
 use Rattle.journal_types.specs.declared.PhaseOf.TheVariants as of
 use Rattle.journal_types.specs.declared.Row.{Row}
@@ -16,11 +14,11 @@ use Rattle.stack_rules.specs.declared.LiveList.{LiveList}
 use Rattle.stack_rules.specs.declared.Thing.{Thing}
 use Rattle.stack_rules.specs.declared.Thing.TheVariants as thing
 use Rattle.stack_rules.specs.declared.Request.{Request}
-use Rattle.stack_rules.specs.Tests.{phase_is_halted, phase_is_paused, phase_is_running, phase_is_pausing, phase_is_restarting, is_paused, is_running, is_halted}
-use Rattle.stack_rules.specs.Net.{Net, Modules, Port, lists, first_port, first_filters, port_after, after, after_rows}
+use Rattle.stack_rules.specs.Tests.{phase_is_paused, is_paused, is_running, is_halted}
+use Rattle.stack_rules.specs.Net.{Net, Modules, Port, lists, first_port, port_after, after, after_rows}
 use Rattle.stack_rules.specs.Places.{position, counts_at, outstanding, position_in, is_at_most}
 use Rattle.stack_rules.specs.Outcome.{config_no}
-use Rattle.stack_rules.specs.Pauses.{binding_ids, one, floors, state_row, state_rows, initialize_rows, all_are, count_front, first_unpaused, paused_rows, paused_reply, running_floors, restarting, is_top, restart_rows, statuses_away, is_status_thing, halt_items, halt_rows}
+use Rattle.stack_rules.specs.Pauses.{binding_ids, one, floors, state_row, state_rows, initialize_rows, all_are, count_front, first_unpaused, paused_rows, running_floors, restart_rows, is_status_thing, halt_items, halt_rows}
 use Rattle.first_form.specs.First.{IsFirst, PhaseFits, bindings_are}
 use Rattle.first_form.proofs.Lists.{Fit, by_test}
 use Rattle.first_form.proofs.Moves.{fit_of}
@@ -54,7 +52,7 @@ initialized net h p =
     let last : List Row = row.Phase (of.Stack phase.Paused) ∷ row.Config (config_no 1) [] ∷ [] in
     let rows : List Row = state_rows (state.Opening ∷ state.Paused ∷ []) (binding_ids 0 net.modules.bindings) in
     let is : after_rows net (initialize_rows net) ≡ after_rows (with_bindings low (replicate (length net.modules.bindings) state.Paused)) last =
-        after_rows-append low rows last ∙ ap (λ n. after_rows n last) (all_take_two low state.Opening state.Paused) in
+    after_rows-append low rows last ∙ ap (λ n. after_rows n last) (all_take_two low state.Opening state.Paused) in
     subst IsFirst (sym is) (record {
       head = h.head;
       order = refl;
@@ -139,6 +137,7 @@ all_count net h = counts net.things (fit_of net h)
   where
     one_counts : (l : LiveList) (b : ℕ) → l.owner ≡ Binding b → counts_at net.modules.order 0 l ≡ true
     one_counts l b e = ap (λ o. (position net.modules.order o == 0) || is_at_most 0 (position_in net.modules.order l.last l.stand)) e
+
     counts : (ts : List Thing) → Fit net.head net.next.list ts → count_by (counts_at net.modules.order 0) (lists ts) ≡ length ts
     counts [] f = refl
     counts (thing.Status s ∷ ts) f = absurd f
@@ -212,7 +211,7 @@ high_restarted net h p m b =
     let rows : List Row = state_rows (state.Restarting ∷ state.Running ∷ []) (binding_ids 0 net.modules.bindings) in
     let last : List Row = row.Phase (of.Stack phase.Running) ∷ [] in
     let is : after_rows net (restart_rows net 1) ≡ after_rows (with_bindings net (replicate (length net.modules.bindings) state.Running)) last =
-        ap (after_rows net) (high_rows net h p) ∙ after_rows-append net rows last ∙ ap (λ n. after_rows n last) (all_take_two net state.Restarting state.Running) in
+    ap (after_rows net) (high_rows net h p) ∙ after_rows-append net rows last ∙ ap (λ n. after_rows n last) (all_take_two net state.Restarting state.Running) in
     subst IsFirst (sym is) (record {
       head = h.head;
       order = h.order;
@@ -234,7 +233,7 @@ halted net h b none =
     let rows : List Row = state_rows (state.Closing ∷ state.Unbound ∷ []) (binding_ids 0 net.modules.bindings) in
     let last : List Row = state_row state.Halted Miniport ∷ row.Phase (of.Stack phase.Halted) ∷ [] in
     let is : after_rows net (halt_rows net) ≡ after_rows (with_bindings net (replicate (length net.modules.bindings) state.Unbound)) last =
-        ap (after_rows net) (halt_is net h) ∙ after_rows-append net rows last ∙ ap (λ n. after_rows n last) (all_take_two net state.Closing state.Unbound) in
+    ap (after_rows net) (halt_is net h) ∙ after_rows-append net rows last ∙ ap (λ n. after_rows n last) (all_take_two net state.Closing state.Unbound) in
     subst IsFirst (sym is) (record {
       head = h.head;
       order = h.order;

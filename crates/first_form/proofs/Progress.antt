@@ -1,6 +1,6 @@
 -- What a turn of the first form leads to: for the loops that end a run.
-use Rattle.std.proofs.Common.{◌≡◌, ℕ, ◌+◌, ◌<◌, ◌==◌, ◌||◌, Bool, true, false, cond, List, [], ◌∷◌, ◌++◌, Option, Some, None, length, replicate, refl, arith, ap, ap₂, sym, subst, ◌∙◌, inl, inr, ◌⊎◌}
-use Rattle.ndis_base.specs.declared.ModuleId.TheVariants.{Miniport, Filter, Binding}
+use Rattle.std.proofs.Common.{◌≡◌, ℕ, ◌<◌, Bool, true, false, List, [], ◌∷◌, ◌++◌, Option, Some, length, replicate, refl, arith, ap, sym, subst, ◌∙◌, inl, inr, ◌⊎◌}
+use Rattle.ndis_base.specs.declared.ModuleId.TheVariants.{Miniport, Binding}
 use Rattle.ndis_base.specs.declared.ModuleState.TheVariants as state
 use Rattle.ndis_base.specs.declared.Phase.{Phase}
 use Rattle.ndis_base.specs.declared.Phase.TheVariants as phase
@@ -14,23 +14,22 @@ use Rattle.journal_types.specs.declared.Reply.TheVariants as reply
 use Rattle.journal_types.specs.declared.Refusal.TheVariants as refusal
 use Rattle.journal_types.specs.declared.Turn.{Turn}
 use Rattle.stack_rules.specs.declared.LiveList.{LiveList}
-use Rattle.stack_rules.specs.declared.Thing.{Thing}
 use Rattle.stack_rules.specs.declared.Thing.TheVariants as thing
 use Rattle.stack_rules.specs.Tests.{phase_is_running}
-use Rattle.stack_rules.specs.Net.{Net, lists, after_rows, after_turn}
-use Rattle.stack_rules.specs.Places.{agenda, agenda_first, kept_lists, is_full}
-use Rattle.stack_rules.specs.Outcome.{Outcome, answered, list_no}
-use Rattle.stack_rules.specs.Sends.{sent, send_outcome, transmit_outcome, transmitted}
+use Rattle.stack_rules.specs.Net.{Net, after_rows, after_turn}
+use Rattle.stack_rules.specs.Places.{agenda_first, kept_lists, is_full}
+use Rattle.stack_rules.specs.Outcome.{Outcome, answered}
+use Rattle.stack_rules.specs.Sends.{send_outcome, transmit_outcome, transmitted}
 use Rattle.stack_rules.specs.Pumps.{pump_outcome, thing_rows}
 use Rattle.stack_rules.specs.Drains.{drain_outcome}
-use Rattle.stack_rules.specs.Pauses.{binding_ids, state_row, state_rows, initialize_rows, initialize_outcome, begin_outcome, pause_outcome, paused_rows, restart_rows, restart_outcome, halt_rows, halt_outcome}
+use Rattle.stack_rules.specs.Pauses.{binding_ids, state_row, state_rows, initialize_rows, pause_outcome, paused_rows, restart_rows, halt_rows}
 use Rattle.stack_rules.specs.Sound.{outcome, Next}
-use Rattle.first_form.specs.First.{IsFirst, IsFirstEvent, PhaseFits, bindings_are, steps_to_go, pause_to_go, floors_to_go, positions_left}
+use Rattle.first_form.specs.First.{IsFirst, IsFirstEvent, PhaseFits, pause_to_go, floors_to_go, positions_left}
 use Rattle.first_form.proofs.Lists.{by_test}
-use Rattle.first_form.proofs.States.{after_rows-append, with_bindings, all_take, all_take_two}
+use Rattle.first_form.proofs.States.{after_rows-append, with_bindings, all_take}
 use Rattle.first_form.proofs.Moves.{AdvancesTo, advances_to, pump_advances, transmit_advances}
 use Rattle.first_form.proofs.Phases.{top_after, bottom_rows, low_rows, high_rows, halt_is}
-use Rattle.first_form.proofs.Rings.{lists_away, agenda_is, none_away, first_on_way, pump_idle, pump_works, Pumps, Wires, RingCases, ring_cases, DrainCases, drain_cases}
+use Rattle.first_form.proofs.Rings.{lists_away, none_away, first_on_way, pump_idle, pump_works, RingCases, ring_cases, DrainCases, drain_cases}
 use Rattle.first_form.proofs.Kept.{first_kept, turn_is, fits_at, sent_is}
 use Rattle.first_form.proofs.Outcomes.{answers_with, initialize_is, initialize_refused, begin_is, pause_top, pause_waits, pause_bottom, restart_low, restart_high, halts}
 
@@ -67,8 +66,10 @@ pump_gives net turn h n is = by_away (lists_away net) refl
   where
     t : IsTurn net turn (pump_outcome net n.choice.keeps)
     t = turn_at net turn event.Pump n is tt
+
     first : IsFirst (after_turn net turn)
     first = kept_at net turn event.Pump h n is tt
+
     by_away : (ls : List LiveList) → lists_away net ≡ ls → PumpGives net turn
     by_away [] e =
         let is : IsTurn net turn (answered reply.Idle) = subst (IsTurn net turn) (pump_idle net n.choice.keeps h (none_away net h e)) t in
@@ -98,10 +99,13 @@ drain_gives net turn h n is = by_cases (drain_cases net n.choice.keeps h)
   where
     t : IsTurn net turn (drain_outcome net n.choice.keeps)
     t = turn_at net turn event.Drain n is tt
+
     first : IsFirst (after_turn net turn)
     first = kept_at net turn event.Drain h n is tt
+
     advanced : turn.reply ≡ reply.Moved → AdvancesTo net (after_turn net turn) → DrainGives net turn
     advanced r to = record { first = first; answer = inl r; moved = λ _. to; idle = λ i. cc; still = λ i. cc; some = λ _. r; filled = λ _. r; phase = to.phase; miniport = to.miniport }
+
     by_cases : DrainCases net n.choice.keeps → DrainGives net turn
     by_cases (inl e) =
         let is : IsTurn net turn (answers_with reply.Moved (thing_rows net e.thing n.choice.keeps)) = subst (IsTurn net turn) e.is t in
@@ -127,8 +131,10 @@ transmit_gives net turn h n is = by_cases (ring_cases net h)
   where
     t : IsTurn net turn (transmit_outcome net)
     t = turn_at net turn event.Transmit n is tt
+
     first : IsFirst (after_turn net turn)
     first = kept_at net turn event.Transmit h n is tt
+
     by_cases : RingCases net → TransmitGives net turn
     by_cases (inl e) =
         let is : IsTurn net turn (answered reply.Idle) = subst (IsTurn net turn) e.1 t in
@@ -149,10 +155,10 @@ send_gives net turn binding cancel frames h n is =
     let t : IsTurn net turn (send_outcome net binding cancel frames) = turn_at net turn (event.Send binding cancel frames) n is tt in
     let same : Outcome → Type 0 = λ o. ((after_rows net o.rows).phase ≡ net.phase) × ((after_rows net o.rows).modules ≡ net.modules) in
     let sends : same (send_outcome net binding cancel frames) =
-        by_test same (phase_is_running net.phase) _ _
-        (λ _. by_test same (is_full net (Binding binding)) _ _ (λ _. (refl, refl))
-        (λ _. (ap (λ (m : Net). m.phase) (sent_is net binding cancel frames h), ap (λ (m : Net). m.modules) (sent_is net binding cancel frames h))))
-        (λ _. (refl, refl)) in
+    by_test same (phase_is_running net.phase) _ _
+    (λ _. by_test same (is_full net (Binding binding)) _ _ (λ _. (refl, refl))
+    (λ _. (ap (λ (m : Net). m.phase) (sent_is net binding cancel frames h), ap (λ (m : Net). m.modules) (sent_is net binding cancel frames h))))
+    (λ _. (refl, refl)) in
     record {
       first = kept_at net turn (event.Send binding cancel frames) h n is tt;
       phase = ap (λ (m : Net). m.phase) t.after ∙ sends.0;
@@ -179,10 +185,13 @@ pause_gives net turn h n is p = by_phase (fits_at net phase.Pausing h p)
   where
     t : IsTurn net turn (pause_outcome net)
     t = turn_at net turn event.PauseNext n is tt
+
     first : IsFirst (after_turn net turn)
     first = kept_at net turn event.PauseNext h n is tt
+
     floors_at : (m : Net) (q : Phase) → m.phase ≡ q → floors_to_go m m.phase ≡ floors_to_go m q
     floors_at m q e = ap (floors_to_go m) e
+
     by_phase : PhaseFits net phase.Pausing → PauseGives net turn
     by_phase (inl f) = by_left (cases_nil net.things)
       where

@@ -1,5 +1,5 @@
 -- What is on its way and what the miniport keeps, and what a pump, a drain and a transmission make of it.
-use Rattle.std.proofs.Common.{◌≡◌, ℕ, zero, suc, ◌+◌, ◌<◌, ◌≤◌, ◌==◌, ◌&&◌, ◌||◌, not, Bool, true, false, cond, List, [], ◌∷◌, ◌++◌, Option, Some, None, is_some, length, map, filter, find, All, refl, arith, ap, ap₂, sym, subst, ◌∙◌, inl, inr, ◌⊎◌, get_or}
+use Rattle.std.proofs.Common.{◌≡◌, ℕ, ◌<◌, ◌≤◌, ◌||◌, not, Bool, true, false, cond, List, [], ◌∷◌, ◌++◌, Option, Some, None, is_some, length, map, filter, find, All, refl, ap, ap₂, ◌∙◌, inl, inr, ◌⊎◌}
 use Rattle.std.specs.List.{list_any}
 use Rattle.std.proofs.lemmas.Bool.{cases_lt}
 use Rattle.std.proofs.lemmas.List.{get_or_past}
@@ -8,15 +8,12 @@ use Rattle.ndis_base.specs.declared.ModuleId.{ModuleId}
 use Rattle.ndis_base.specs.declared.ModuleId.TheVariants.{Miniport, Filter, Binding}
 use Rattle.ndis_base.specs.declared.ListStatus.{ListStatus}
 use Rattle.ndis_base.specs.declared.ListStatus.TheVariants.{Success, Resources}
-use Rattle.ndis_base.specs.declared.MiniportKind.TheVariants as miniport_kind
 use Rattle.ndis_base.specs.declared.ProtocolKind.{ProtocolKind}
 use Rattle.ndis_base.specs.declared.ProtocolKind.TheVariants as protocol_kind
 use Rattle.journal_types.specs.declared.StackHead.{StackHead}
-use Rattle.journal_types.specs.declared.Handler.TheVariants as handler
 use Rattle.journal_types.specs.declared.PassWay.TheVariants as way
 use Rattle.journal_types.specs.declared.Target.TheVariants.{Module, Bindings}
 use Rattle.journal_types.specs.declared.Row.{Row}
-use Rattle.journal_types.specs.declared.Row.TheVariants as row
 use Rattle.journal_types.specs.declared.Reply.TheVariants as reply
 use Rattle.stack_rules.specs.declared.Stand.{Stand}
 use Rattle.stack_rules.specs.declared.Stand.TheVariants as stand
@@ -24,18 +21,18 @@ use Rattle.stack_rules.specs.declared.LiveList.{LiveList}
 use Rattle.stack_rules.specs.declared.Thing.{Thing}
 use Rattle.stack_rules.specs.declared.Thing.TheVariants as thing
 use Rattle.stack_rules.specs.Tests.{is_virtual, is_retain, phase_is_running}
-use Rattle.stack_rules.specs.Net.{Net, lists, list_of, kind_of_binding, binding_numbers}
-use Rattle.stack_rules.specs.Places.{position, is_away, is_passed, is_kept_by, is_clone_of, is_crossed, has_clone, waits, kept_lists, ready_lists, agenda, agenda_first}
-use Rattle.stack_rules.specs.Targets.{homeward, turned_back}
+use Rattle.stack_rules.specs.Net.{Net, lists, kind_of_binding, binding_numbers}
+use Rattle.stack_rules.specs.Places.{is_away, is_passed, is_kept_by, is_clone_of, is_crossed, has_clone, waits, kept_lists, ready_lists, agenda, agenda_first}
+use Rattle.stack_rules.specs.Targets.{turned_back}
 use Rattle.stack_rules.specs.Outcome.{Outcome, answered}
 use Rattle.stack_rules.specs.Requests.{next_giving}
-use Rattle.stack_rules.specs.Sends.{ring_is_full, miniport_rows, transmitted, transmit_of, first_of, first_in_ring, transmit_outcome}
-use Rattle.stack_rules.specs.Pumps.{moved_rows, thing_rows, pump_of, pump_outcome, pump_moves, request_pump}
+use Rattle.stack_rules.specs.Sends.{transmitted, transmit_of, first_of, transmit_outcome}
+use Rattle.stack_rules.specs.Pumps.{thing_rows, pump_of, pump_outcome, pump_moves, request_pump}
 use Rattle.stack_rules.specs.Drains.{returned_by, returns_all, passes_all, empties, empties_ring, first_rows, drain_rows, drained, drain_outcome}
-use Rattle.first_form.specs.First.{IsFirst, IsFirstHead, IsLogBinding, IsFirstList, IsFirstStand}
-use Rattle.first_form.proofs.Lists.{Fit, by_test, some_same}
-use Rattle.first_form.proofs.Targets.{homeward_is, no_requests}
-use Rattle.first_form.proofs.Moves.{fit_of, transmitted_is, home_is}
+use Rattle.first_form.specs.First.{IsFirst, IsFirstHead, IsFirstList, IsFirstStand}
+use Rattle.first_form.proofs.Lists.{Fit}
+use Rattle.first_form.proofs.Targets.{no_requests}
+use Rattle.first_form.proofs.Moves.{fit_of}
 
 -- all that lives are lists
 pub things_are : (net : Net) → IsFirst net → net.things ≡ map thing.List (lists net.things)
@@ -255,7 +252,7 @@ nothing_left head next (thing.List l ∷ ts) f a k =
 abbrev pub DrainCases : Net → Bool → Type 0
 DrainCases net keeps =
     Pumps net keeps (drain_outcome net keeps)
-        ⊎ (Wires net (drain_outcome net keeps) (λ l. reply.Moved) ⊎ ((net.things ≡ []) × (drain_outcome net keeps ≡ answered reply.Idle)))
+    ⊎ (Wires net (drain_outcome net keeps) (λ l. reply.Moved) ⊎ ((net.things ≡ []) × (drain_outcome net keeps ≡ answered reply.Idle)))
 
 pub drain_cases : (net : Net) (keeps : Bool) → IsFirst net → DrainCases net keeps
 drain_cases net keeps h = by_away (agenda_first net) refl
@@ -263,6 +260,7 @@ drain_cases net keeps h = by_away (agenda_first net) refl
     by_ring : (ls : List LiveList) → agenda_first net ≡ None → kept_lists net Miniport ≡ ls → DrainCases net keeps
     by_ring [] a e = inr (inr (nothing_left net.head net.next.list net.things (fit_of net h) a e, drain_idle net keeps h (pump_still net h a) e))
     by_ring (l ∷ ls) a e = inr (inl (record { list = l; rest = ls; kept = e; is = drain_wires net keeps l ls h (pump_still net h a) e }))
+
     by_away : (o : Option Thing) → agenda_first net ≡ o → DrainCases net keeps
     by_away None e = by_ring (kept_lists net Miniport) e refl
     by_away (Some t) e = inl (record { thing = t; first = e; is = drain_pumps net keeps t e })

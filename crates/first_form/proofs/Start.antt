@@ -1,5 +1,4 @@
 -- The state before the first turn is of the first form.
-use Rattle.std.specs.Prelude.{◌≡◌}
 use Rattle.std.proofs.Common.{refl, arith}
 use Rattle.std.proofs.lemmas.List.{length-replicate}
 use Rattle.journal_types.specs.declared.StackHead.{StackHead}

@@ -1,9 +1,7 @@
 -- All bindings take a state.
-use Rattle.std.proofs.Common.{◌≡◌, ℕ, zero, suc, ◌+◌, ◌<◌, ◌==◌, Bool, true, false, cond, ◌&&◌, List, [], ◌∷◌, ◌++◌, length, set, get_or, replicate, refl, arith, ap, sym, subst, append_assoc, append-nil, take, map, ◌∙◌}
-use Rattle.std.specs.List.{list_all}
-use Rattle.std.proofs.lemmas.List.{set_at, get_or_at, length_push, length-replicate}
-use Rattle.ndis_base.specs.declared.ModuleId.{ModuleId}
-use Rattle.ndis_base.specs.declared.ModuleId.TheVariants.{Miniport, Filter, Binding}
+use Rattle.std.proofs.Common.{◌≡◌, ℕ, zero, suc, ◌+◌, ◌<◌, Bool, true, false, List, [], ◌∷◌, ◌++◌, length, set, get_or, replicate, refl, arith, ap, sym, append_assoc, append-nil, take, map, ◌∙◌}
+use Rattle.std.proofs.lemmas.List.{set_at, get_or_at, length_push}
+use Rattle.ndis_base.specs.declared.ModuleId.TheVariants.{Binding}
 use Rattle.ndis_base.specs.declared.ModuleState.{ModuleState}
 use Rattle.ndis_base.specs.declared.ModuleState.TheVariants as state
 use Rattle.journal_types.specs.declared.Row.{Row}

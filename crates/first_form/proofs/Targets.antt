@@ -1,12 +1,10 @@
 -- Where lists go where there are no filters, and that no request is worked where there is none.
-use Rattle.std.proofs.Common.{◌≡◌, ℕ, zero, suc, ◌-◌, Bool, true, false, cond, List, [], ◌∷◌, Option, Some, None, take, drop, reverse, refl, ap, sym, subst, find, ◌∙◌, ap₂}
+use Rattle.std.proofs.Common.{◌≡◌, ℕ, zero, suc, ◌-◌, Bool, true, false, cond, List, [], ◌∷◌, Option, None, take, drop, reverse, refl, ap, find, ◌∙◌, ap₂}
 use Rattle.ndis_base.specs.declared.ModuleId.{ModuleId}
-use Rattle.ndis_base.specs.declared.ModuleId.TheVariants.{Miniport, Filter, Binding}
-use Rattle.ndis_base.specs.declared.Direction.TheVariants as direction
+use Rattle.ndis_base.specs.declared.ModuleId.TheVariants.{Miniport}
 use Rattle.ndis_base.specs.declared.ListStatus.{ListStatus}
 use Rattle.journal_types.specs.declared.StackHead.{StackHead}
 use Rattle.journal_types.specs.declared.PassWay.TheVariants as way
-use Rattle.journal_types.specs.declared.Target.{Target}
 use Rattle.journal_types.specs.declared.Target.TheVariants.{Module}
 use Rattle.journal_types.specs.declared.Row.TheVariants as row
 use Rattle.stack_rules.specs.declared.LiveList.{LiveList}
