@@ -1,7 +1,7 @@
 -- The state of a stack of the built form, between turns and while rows are written.
-use Rattle.std.specs.Prelude.{◌≡◌, ℕ, ◌+◌, ◌*◌, ◌<◌, ◌≤◌, Bool, true, false, List, [], ◌∷◌, Option, Some, None, length, map, replicate, sum_by, slice_index_or, All, if◌then◌else◌, ◌⊎◌}
+use Rattle.std.specs.Prelude.{◌≡◌, ℕ, ◌+◌, ◌<◌, ◌≤◌, [], None, length, replicate, sum_by, All, AllPairs, ◌⊎◌, ◌≢◌}
 use Rattle.ndis_base.specs.declared.ModuleId.{ModuleId}
-use Rattle.ndis_base.specs.declared.ModuleId.TheVariants.{Miniport, Filter, Binding}
+use Rattle.ndis_base.specs.declared.ModuleId.TheVariants.{Miniport, Binding}
 use Rattle.ndis_base.specs.declared.ModuleState.{ModuleState}
 use Rattle.ndis_base.specs.declared.ModuleState.TheVariants as state
 use Rattle.ndis_base.specs.declared.Phase.{Phase}
@@ -13,7 +13,7 @@ use Rattle.ndis_base.specs.declared.ProtocolKind.{ProtocolKind}
 use Rattle.ndis_base.specs.declared.ProtocolKind.TheVariants as protocol_kind
 use Rattle.journal_types.specs.declared.StackHead.{StackHead}
 use Rattle.journal_types.specs.declared.PassWay.TheVariants as way
-use Rattle.journal_types.specs.declared.Target.TheVariants.{Module, Bindings}
+use Rattle.journal_types.specs.declared.Target.TheVariants.{Module}
 use Rattle.journal_types.specs.declared.Event.{Event}
 use Rattle.journal_types.specs.declared.Event.TheVariants as event
 use Rattle.stack_rules.specs.declared.Stand.{Stand}
@@ -22,7 +22,6 @@ use Rattle.stack_rules.specs.declared.LiveList.{LiveList}
 use Rattle.stack_rules.specs.declared.Thing.{Thing}
 use Rattle.stack_rules.specs.declared.Thing.TheVariants as thing
 use Rattle.stack_rules.specs.Net.{Net, lists}
-use Rattle.stack_rules.specs.Places.{owned}
 
 -- a head of the built form: a ring miniport, and 1 to 8 log bindings
 abbrev pub IsLogBinding : (ProtocolKind × ℕ) → Type 0
@@ -81,7 +80,11 @@ PhaseFits net phase.Restarting = (net.modules.miniport ≡ state.Running) × (bi
 PhaseFits net phase.Running = (net.modules.miniport ≡ state.Running) × bindings_are net state.Running
 PhaseFits net phase.Pausing =
     ((net.modules.miniport ≡ state.Running) × bindings_are net state.Pausing)
-        ⊎ ((net.modules.miniport ≡ state.Pausing) × (bindings_are net state.Paused × (net.things ≡ [])))
+    ⊎ ((net.modules.miniport ≡ state.Pausing) × (bindings_are net state.Paused × (net.things ≡ [])))
+
+-- two live lists have different numbers
+abbrev pub OtherNumber : LiveList → LiveList → Type 0
+OtherNumber k l = k.list.0 ≢ l.list.0
 
 -- the state between turns
 pub record IsFirst (net : Net) : Type 0 where
@@ -90,6 +93,8 @@ pub record IsFirst (net : Net) : Type 0 where
   pub filters : net.modules.filters ≡ []
   pub requests : net.requests ≡ []
   pub things : All (IsFirstThing net.head) net.things
+  pub apart : AllPairs OtherNumber (lists net.things)
+  pub below : All (λ l. l.list.0 < net.next.list) (lists net.things)
   pub phase : PhaseFits net net.phase
   pub counts : (length net.port.answers_by ≡ length net.head.bindings) × (length net.port.delivers_by ≡ length net.head.bindings)
 
