@@ -1,0 +1,5 @@
+pub mod Words
+pub mod Programs
+pub mod Events
+pub mod Rows
+pub mod Text
