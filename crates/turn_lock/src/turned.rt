@@ -27,7 +27,8 @@ pub trait Turned {
 
     ghost phase_of: { Self → Phase };
 
-    /// One step. It may take memory, which the object has to have at hand; without it the answer is `OutOfMemory`.
+    /// One step. An object whose steps take memory holds its allocator. Where memory runs out the answer is
+    /// `OutOfMemory`, and what the object is then, its `steps` say.
     fn step(&mut self, call: Self::Call) -> Result<Self::Reply, OutOfMemory>
         requires { fits (fixed self.old) call }
         ensures steps { steps self.old call result self.new }
