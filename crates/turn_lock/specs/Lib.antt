@@ -1,0 +1,4 @@
+pub mod History
+pub mod Orderly
+pub mod Plays
+pub mod Account
