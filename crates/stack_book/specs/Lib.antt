@@ -1,0 +1,5 @@
+pub mod Views
+pub mod Stands
+pub mod Calls
+pub mod Events
+pub mod Turns
