@@ -37,3 +37,8 @@ things_of ls = map (λ l. thing.List l) ls
 abbrev pub with_last : List LiveList → Option LiveList → List LiveList
 with_last ls None = ls
 with_last ls (Some l) = ls ++ l ∷ []
+
+-- a fact of each list
+abbrev pub Each : (LiveList → Type 0) → List LiveList → Type 0
+Each P [] = Unit {0}
+Each P (l ∷ ls) = P l × Each P ls

@@ -1,0 +1,5 @@
+pub mod Lists
+pub mod Lives
+pub mod Apart
+pub mod Each
+pub mod Counts
