@@ -3,3 +3,5 @@ pub mod Lives
 pub mod Apart
 pub mod Each
 pub mod Counts
+pub mod Finds
+pub mod Plain
