@@ -1,0 +1,30 @@
+-- What holds of a book between the turns of a run.
+use Rattle.std.specs.Prelude.{◌≡◌, []}
+use Rattle.ndis_base.specs.declared.Phase.{Phase}
+use Rattle.journal_types.specs.declared.Event.{Event}
+use Rattle.journal_types.specs.declared.Event.TheVariants as event
+use Rattle.stack_book.specs.Views.{BookView}
+use Rattle.stack_book.specs.Stands.{Stands}
+
+-- between two turns: everything agrees, and no rows are under way
+pub record IsBetween (b : BookView) : Type 0 where
+  pub stands : Stands b
+  pub idle : b.core.tray.rows ≡ []
+
+-- between two turns, in this phase
+pub record IsAt (b : BookView) (at : Phase) : Type 0 where
+  pub between : IsBetween b
+  pub phase : b.core.tray.net.phase ≡ at
+
+-- after some turns: the head stays, and the stack is in this phase
+pub record Runs (old new : BookView) (at : Phase) : Type 0 where
+  pub head : new.core.head ≡ old.core.head
+  pub now : IsAt new at
+
+-- the events that a call of a script asks for
+abbrev pub MayCall : Event → Type 0
+MayCall (event.Send binding cancel frames) = Unit {0}
+MayCall event.Transmit = Unit {0}
+MayCall event.Pump = Unit {0}
+MayCall event.Drain = Unit {0}
+MayCall _ = ⊥
