@@ -62,11 +62,11 @@ wired t l =
     record (written t (row.Wire l.label.number l.frames)) { frames = record t.frames { lists = t.frames.lists - 1 } }
 
 -- there is room for so many rows, for one more list on its way, and for the frames of so many rows
-pub record HasTrayRoom (t : TrayView) (rows lists width bytes : ℕ) : Type 0 where
-  pub rows : rows ≤ t.room
+pub record HasTrayRoom (t : TrayView) (row_count list_count frame_count byte_count : ℕ) : Type 0 where
+  pub rows : row_count ≤ t.room
   pub spare : 16 ≤ t.spare
   pub low : IsLow t.net
   pub slack : 0 < t.slack
-  pub frames : lists ≤ t.frames.lists
-  pub width : t.frames.width ≡ width
-  pub bytes : t.frames.bytes ≡ bytes
+  pub frames : list_count ≤ t.frames.lists
+  pub width : t.frames.width ≡ frame_count
+  pub bytes : t.frames.bytes ≡ byte_count

@@ -99,7 +99,7 @@ impl Tray {
 
     /// Tells which module is called next.
     pub fn set_caller(&mut self, module: ModuleId)
-        ensures { self.new ≡ record self.old { caller = module } }
+        ensures { self.new ≡ record self.old { caller = «module» } }
     {
         self.caller = module;
     }
