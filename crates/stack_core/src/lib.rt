@@ -2,7 +2,7 @@
 //! the bindings.
 #![tactic(auto)]
 
-ghost use Rattle.std.specs.Prelude.{◌≡◌, ◌+◌, ◌-◌, ◌≤◌, ◌<◌, ◌^◌, ◌∷◌, [], ◌*◌, List, None, Some, OnOk, OnErr, IfOk, All, length, slice_index_or, slice_set};
+ghost use Rattle.std.specs.Prelude.{◌≡◌, ◌+◌, ◌-◌, ◌≤◌, ◌<◌, ◌^◌, ◌∷◌, [], ◌*◌, List, None, Some, IsSome, OnOk, OnErr, IfOk, All, length, slice_index_or, slice_set};
 ghost use Rattle.journal_types.specs.Sizes.{turn_bytes};
 ghost use Rattle.stack_rules.specs.Net.{seen, start};
 ghost use Rattle.stack_rules.specs.Sound.{Next};
@@ -209,7 +209,7 @@ impl Core {
         ensures sent { IsSent (state miniport.old) list self.old.tray (state miniport.new) self.new.tray }
         ensures core { self.new ≡ record self.old { tray = self.new.tray } }
     {
-        miniport.send(list, &mut self.tray);
+        send_boxed(miniport, list, &mut self.tray);
     }
 
     /// Tells the miniport to transmit.
@@ -282,6 +282,14 @@ fn issue_from(pool: &mut ListPool, label: Label, frames: &[Frame]) -> BufferList
         Ok(list) => list,
         Err(NoList) => unreachable!(),
     }
+}
+
+fn send_boxed(miniport: &mut Box<dyn MiniportDriver>, list: BufferList, tray: &mut Tray)
+    requires { MaySend (state miniport.old) list tray.old }
+    ensures sent { IsSent (state miniport.old) list tray.old (state miniport.new) tray.new }
+    ensures set_up { IsSome (state miniport.old).port }
+{
+    miniport.send(list, tray);
 }
 
 fn free_at(pools: &mut Vec<ListPool>, binding: usize, list: BufferList)
