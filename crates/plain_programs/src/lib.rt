@@ -1,13 +1,7 @@
-// A library with one function.
+//! Frame programs, plainly: each function computes the definition of its name on a frame of its own.
 #![tactic(auto)]
 
-ghost use Rattle.std.specs.Prelude.{◌≡◌};
-ghost use Rattle.plain_programs.specs.Echo.{echo_of};
+pub mod bytes;
+pub mod rules;
 
-// The `ensures` clause is the contract: what `echo` returns is `echo_of` of its argument, a definition
-// in `specs/Echo.antt`, which a caller's clause can cite too.
-pub fn echo(x: usize) -> usize
-    ensures { result ≡ echo_of x }
-{
-    x
-}
+ghost use Rattle.std.specs.Prelude.{◌≡◌};
