@@ -1,13 +1,9 @@
-// A library with one function.
+//! The state after a journal, kept plainly: each row and each event makes the change that its definition
+//! says, on plain vectors.
 #![tactic(auto)]
 
-ghost use Rattle.std.specs.Prelude.{◌≡◌};
-ghost use Rattle.plain_net.specs.Echo.{echo_of};
+pub mod net;
 
-// The `ensures` clause is the contract: what `echo` returns is `echo_of` of its argument, a definition
-// in `specs/Echo.antt`, which a caller's clause can cite too.
-pub fn echo(x: usize) -> usize
-    ensures { result ≡ echo_of x }
-{
-    x
-}
+ghost use Rattle.std.specs.Prelude.{◌≡◌};
+
+pub use crate::net::PlainNet;

@@ -216,9 +216,9 @@ fn answer_to(parent: Option<OidNo>, request: OidNo, status: OidStatus, value: &O
 }
 
 /// A request is done: it is its parent's answer, or no more.
-pub fn things_done(alloc: Global, r: &Request, status: OidStatus, value: &OidValue, things: Vec<Thing>) -> Result<Vec<Thing>, OutOfMemory>
-    ensures { IfOk result (λ after. after.items ≡ things_done (Some r.now) r.now.request status value.now things.items) }
+pub fn things_done(alloc: Global, r: &Request, request: OidNo, status: OidStatus, value: &OidValue, things: Vec<Thing>) -> Result<Vec<Thing>, OutOfMemory>
+    ensures { IfOk result (λ after. after.items ≡ things_done (Some r.now) request status value.now things.items) }
 {
-    let others = without_answers(alloc, r.request.0, things)?;
-    answer_to(r.parent, r.request, status, value, others)
+    let others = without_answers(alloc, request.0, things)?;
+    answer_to(r.parent, request, status, value, others)
 }
