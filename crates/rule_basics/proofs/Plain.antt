@@ -19,6 +19,7 @@ use Rattle.stack_rules.specs.Tests.{is_paused, is_running}
 use Rattle.stack_rules.specs.Pauses.{floors, one, count_front, binding_ids, all_are, first_unpaused, running_floors}
 use Rattle.stack_rules.specs.Requests.{Giving, lowest_giving, entry_giving, next_giving, or_else, oid_modules, giving_to, is_at_entry}
 use Rattle.stack_rules.specs.Pumps.{pump_moves}
+use Rattle.rule_basics.specs.Live.{front_of_two}
 
 drop-nil : (n : ℕ) → drop {A = ℕ} n [] ≡ []
 drop-nil zero = refl
@@ -74,10 +75,6 @@ bindings_from test net k before (s ∷ after) e h =
 pub all_are-bindings : (test : ModuleState → Bool) (net : Net) → all_are test net (binding_ids 0 net.modules.bindings) ≡ list_all test net.modules.bindings
 all_are-bindings test net = bindings_from test net 0 [] net.modules.bindings refl refl
 
--- how many of two positions at the front pass
-abbrev pub front_of_two : Bool → Bool → ℕ
-front_of_two a b = cond a (cond b 2 1) 0
-
 length-floors : (first : List ModuleId) (order : List ℕ) → order ≡ [] → length (first ∷ (map (λ f. one (Filter f)) order ++ one Miniport ∷ [])) ≡ 2
 length-floors first [] e = refl
 length-floors first (f ∷ fs) e = cc
@@ -102,7 +99,7 @@ and_true : (b : Bool) → (b && true) ≡ b
 and_true true = refl
 and_true false = refl
 
-same_front : (a b c d : Bool) → a ≡ c → b ≡ d → front_of_two a b ≡ front_of_two c d
+pub same_front : (a b c d : Bool) → a ≡ c → b ≡ d → front_of_two a b ≡ front_of_two c d
 same_front a b c d e f = cc
 
 pub first_unpaused-plain : (net : Net) → net.modules.order ≡ [] → first_unpaused net ≡ front_of_two (list_all is_paused net.modules.bindings) (is_paused net.modules.miniport)

@@ -42,3 +42,7 @@ with_last ls (Some l) = ls ++ l ∷ []
 abbrev pub Each : (LiveList → Type 0) → List LiveList → Type 0
 Each P [] = Unit {0}
 Each P (l ∷ ls) = P l × Each P ls
+
+-- how many of two positions at the front pass
+abbrev pub front_of_two : Bool → Bool → ℕ
+front_of_two a b = if a then (if b then 2 else 1) else 0

@@ -1,0 +1,4 @@
+pub mod Removal
+pub mod Seen
+pub mod Views
+pub mod Noted
