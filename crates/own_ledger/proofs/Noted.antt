@@ -1,5 +1,5 @@
 -- The state after a row that tells of a list.
-use Rattle.std.proofs.Common.{◌≡◌, ℕ, false, List, [], ◌∷◌, ◌++◌, refl, ap, sym, ◌∙◌, subst}
+use Rattle.std.proofs.Common.{◌≡◌, false, List, [], ◌∷◌, ◌++◌, ap, sym, ◌∙◌, subst}
 use Rattle.ndis_base.specs.declared.ModuleId.{ModuleId}
 use Rattle.ndis_base.specs.declared.ListNo.{ListNo}
 use Rattle.ndis_base.specs.declared.ListStatus.{ListStatus}
@@ -53,5 +53,5 @@ pub issued_apart : (v : LedgerView) (a : Inside) → view_of a ≡ v → (e : En
 issued_apart v a h e es i apart fresh =
     let P : LedgerView → Type 0 = λ w. is_live e.list.0 (lists w.net.things) ≡ false in
     let free : is_live e.list.0 (lists_in a.entries.items) ≡ false =
-        sym (ap (is_live e.list.0) (lists-things_of (lists_in a.entries.items))) ∙ subst P (sym h) fresh in
+    sym (ap (is_live e.list.0) (lists-things_of (lists_in a.entries.items))) ∙ subst P (sym h) fresh in
     subst IsApart (sym (ap lists_in i ∙ lists_in-append a.entries.items e)) (IsApart-append (lists_in a.entries.items) (list_in e) apart free)

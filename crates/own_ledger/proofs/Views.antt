@@ -1,5 +1,5 @@
 -- What the queries of a ledger's state are, by its fields.
-use Rattle.std.proofs.Common.{◌≡◌, ℕ, ◌==◌, ◌↔◌, Bool, true, false, List, [], Option, Some, None, option_map, length, refl, ap, sym, ◌∙◌, subst, find, count_by, IfNone, IfSome, IsNone, is_none, arith}
+use Rattle.std.proofs.Common.{◌≡◌, ℕ, ◌==◌, ◌↔◌, true, false, List, [], Option, Some, None, option_map, length, refl, ap, sym, ◌∙◌, subst, find, count_by, IfNone, IfSome, IsNone}
 use Rattle.std.specs.List.{list_all}
 use Rattle.ndis_base.specs.declared.ModuleId.{ModuleId}
 use Rattle.ndis_base.specs.declared.ModuleId.TheVariants.{Miniport}
@@ -37,7 +37,7 @@ pub ring_is_full-view : (v : LedgerView) (a : Inside) → view_of a ≡ v → (n
 ring_is_full-view v a h n es e c =
     let P : LedgerView → Type 0 = λ w. (n == a.head.port.ring) ≡ ring_is_full w.net in
     let same : n ≡ length (kept_lists (net_of a) Miniport) =
-        c ∙ ap (count_by (λ e. is_kept_by Miniport e.stand)) e ∙ sym (length-filter-entries (λ l. is_kept_by Miniport l.stand) a.entries.items) in
+    c ∙ ap (count_by (λ e. is_kept_by Miniport e.stand)) e ∙ sym (length-filter-entries (λ l. is_kept_by Miniport l.stand) a.entries.items) in
     subst P h (ap (λ k. k == a.head.port.ring) same)
 
 pub oldest_kept-view : (v : LedgerView) (a : Inside) → view_of a ≡ v → (es : List Entry) → es ≡ a.entries.items → option_map (λ l. l.list) (first_of (kept_lists v.net Miniport)) ≡ option_map (λ e. e.list) (find (λ e. is_kept_by Miniport e.stand) es)

@@ -9,8 +9,7 @@ ghost use Rattle.rule_basics.specs.Live.{is_live, IsApart, others, retouched, wi
 ghost use Rattle.own_ledger.specs.Entries.{IsFirstAway, list_in, lists_in};
 ghost use Rattle.own_ledger.specs.Places.{counts};
 
-use crate::places;
-use crate::AwayList;
+use crate::{AwayList, places};
 use frame_image::FrameImage;
 use journal_types::{PassWay, Target};
 use ndis_base::{CrossNo, Direction, ListNo, ModuleId, Origin};

@@ -28,9 +28,7 @@ use crate::entries::Entry;
 pub use crate::heads::copy_of_head;
 use frame_image::FrameImage;
 use journal_types::{Frames, PassWay, PhaseOf, Row, StackHead, Target};
-use ndis_base::{
-    ConfigNo, Direction, ListNo, ModuleId, ModuleState, Origin, OutOfMemory, Phase,
-};
+use ndis_base::{ConfigNo, Direction, ListNo, ModuleId, ModuleState, Origin, OutOfMemory, Phase};
 use stack_rules::Stand;
 use std::alloc::Global;
 use std::marker::Model;
@@ -371,7 +369,7 @@ impl OwnLedger {
     pub fn next_down(&self, position: usize) -> Target
         ensures { result ≡ targets.next_down self.now.net.modules position }
     {
-        let _ = (&self.head, position);
+        let _ = &self.head;
         Target::Module(ModuleId::Miniport)
     }
 
@@ -379,7 +377,7 @@ impl OwnLedger {
     pub fn next_up(&self, position: usize) -> Target
         ensures { result ≡ targets.next_up self.now.net.modules position }
     {
-        let _ = (&self.head, position);
+        let _ = &self.head;
         Target::Bindings
     }
 
@@ -387,7 +385,7 @@ impl OwnLedger {
     pub fn next_done(&self, position: usize, owner: ModuleId) -> Target
         ensures { result ≡ targets.next_done self.now.net.modules position owner }
     {
-        let _ = (&self.head, position);
+        let _ = &self.head;
         Target::Module(owner)
     }
 
@@ -396,7 +394,7 @@ impl OwnLedger {
     pub fn next_back(&self, position: usize, owner: ModuleId) -> Target
         ensures { result ≡ targets.next_back self.now.net.modules position owner }
     {
-        let _ = (&self.head, position);
+        let _ = &self.head;
         Target::Module(owner)
     }
 

@@ -1,5 +1,5 @@
 -- The numbers of live lists differ after each change.
-use Rattle.std.proofs.Common.{◌≡◌, ℕ, ◌==◌, ◌||◌, ◌&&◌, not, Bool, true, false, cond, List, [], ◌∷◌, ◌++◌, Option, Some, None, refl, arith, sym, subst}
+use Rattle.std.proofs.Common.{◌≡◌, ℕ, ◌==◌, ◌&&◌, not, Bool, true, false, cond, List, [], ◌∷◌, ◌++◌, Option, Some, None, refl, arith}
 use Rattle.std.proofs.lemmas.Bool.Decides.{nat_tests}
 use Rattle.ndis_base.specs.declared.ModuleId.{ModuleId}
 use Rattle.journal_types.specs.declared.PassWay.{PassWay}
@@ -7,7 +7,7 @@ use Rattle.journal_types.specs.declared.Target.{Target}
 use Rattle.stack_rules.specs.declared.LiveList.{LiveList}
 use Rattle.stack_rules.specs.declared.Stand.TheVariants as stand
 use Rattle.stack_rules.specs.Net.{list_of, kept_by, passed_to}
-use Rattle.rule_basics.specs.Live.{is_live, IsApart, others, touched, retouched, with_last, KeepsNumber}
+use Rattle.rule_basics.specs.Live.{is_live, IsApart, others, retouched, with_last, KeepsNumber}
 use Rattle.rule_basics.proofs.Lives.{is_live-append, is_live-others, is_live-retouched, number-touched, find_is}
 
 pub IsApart-append : (ls : List LiveList) (l : LiveList) → IsApart ls → is_live l.list.0 ls ≡ false → IsApart (ls ++ l ∷ [])

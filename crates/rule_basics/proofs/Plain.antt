@@ -4,7 +4,7 @@ use Rattle.std.proofs.Common.{◌≡◌, ℕ, zero, suc, ◌+◌, ◌-◌, ◌&&
 use Rattle.std.specs.List.{list_all}
 use Rattle.std.proofs.lemmas.List.{get_or_at, append_assoc, length-append}
 use Rattle.ndis_base.specs.declared.ModuleId.{ModuleId}
-use Rattle.ndis_base.specs.declared.ModuleId.TheVariants.{Miniport, Filter, Binding}
+use Rattle.ndis_base.specs.declared.ModuleId.TheVariants.{Miniport, Filter}
 use Rattle.ndis_base.specs.declared.ModuleState.{ModuleState}
 use Rattle.ndis_base.specs.declared.ModuleState.TheVariants as state
 use Rattle.ndis_base.specs.declared.Phase.{Phase}
@@ -69,7 +69,7 @@ bindings_from test net k before [] e h = refl
 bindings_from test net k before (s ∷ after) e h =
     let here : get_or net.modules.bindings k state.Unbound ≡ s = rw e (get_or_at before s after state.Unbound k h) in
     let rest : all_are test net (binding_ids (k + 1) after) ≡ list_all test after =
-        bindings_from test net (k + 1) (before ++ s ∷ []) after (e ∙ sym (append_assoc before (s ∷ []) after)) (length-append before (s ∷ []) ∙ ap (λ n. n + 1) h) in
+    bindings_from test net (k + 1) (before ++ s ∷ []) after (e ∙ sym (append_assoc before (s ∷ []) after)) (length-append before (s ∷ []) ∙ ap (λ n. n + 1) h) in
     rw here (rw rest refl)
 
 pub all_are-bindings : (test : ModuleState → Bool) (net : Net) → all_are test net (binding_ids 0 net.modules.bindings) ≡ list_all test net.modules.bindings
