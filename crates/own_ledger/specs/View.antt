@@ -1,5 +1,5 @@
 -- What contracts see of a ledger.
-use Rattle.std.specs.Prelude.{ℕ, ◌≡◌, ◌<◌, ◌^◌, [], List}
+use Rattle.std.specs.Prelude.{ℕ, ◌≡◌, ◌<◌, ◌^◌, []}
 use Rattle.stack_rules.specs.Net.{Net, lists}
 use Rattle.rule_basics.specs.Live.{IsApart}
 

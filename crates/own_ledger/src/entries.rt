@@ -1,5 +1,9 @@
 //! The live lists, as entries of a vector.
+<<<<<<< HEAD
 ghost use Rattle.std.specs.Prelude.{◌≡◌, false, ℕ, ◌+◌, ◌<◌, ◌≤◌, [], Some, None, IfSome, IfNone, length, slice_index_or, option_map, count_by, find};
+=======
+ghost use Rattle.std.specs.Prelude.{◌≡◌, ◌==◌, false, ℕ, ◌+◌, ◌<◌, ◌≤◌, [], Some, None, IfSome, IfNone, length, slice_index_or, option_map, count_by, find};
+>>>>>>> 45de07c1c439e2767cdfc6f4bfc51c918ea182f9
 ghost use Rattle.std.specs.Vec.{vec_len, vec_capacity};
 ghost use Rattle.ndis_base.specs.declared.ModuleId.TheVariants.{Miniport};
 ghost use Rattle.stack_rules.specs.Net.{list_of, had_by, kept_by, passed_to};
@@ -165,6 +169,30 @@ pub fn oldest_in_ring(entries: &[Entry]) -> Option<ListNo>
     for e in entries {
         if places::is_in_ring(e.stand) {
             return Some(e.list);
+        }
+    }
+    None
+}
+
+/// Whether the list of a number is live.
+pub fn is_live(entries: &[Entry], number: u64) -> bool
+    ensures { result ≡ is_live number (lists_in entries.now) }
+{
+    for e in entries {
+        if e.list.0 == number {
+            return true;
+        }
+    }
+    false
+}
+
+/// Where the list of a number stands.
+pub fn stand_of(entries: &[Entry], number: u64) -> Option<Stand>
+    ensures { result ≡ option_map (λ e. e.stand) (find (λ e. e.list.0 == number) entries.now) }
+{
+    for e in entries {
+        if e.list.0 == number {
+            return Some(e.stand);
         }
     }
     None

@@ -14,12 +14,13 @@ ghost use Rattle.ndis_base.specs.declared.ListStatus.TheVariants as list_status;
 ghost use Rattle.journal_types.specs.declared.Handler.TheVariants as handler;
 ghost use Rattle.journal_types.specs.declared.Row.TheVariants as row;
 ghost use Rattle.journal_types.specs.declared.PhaseOf.TheVariants as of;
-ghost use Rattle.stack_rules.specs.Net.{start, after};
+ghost use Rattle.stack_rules.specs.Net.{start, after, lists, list_of};
 ghost use Rattle.stack_rules.specs.Outcome.{list_no, config_no};
 ghost use Rattle.stack_rules.specs.Pauses as pauses;
 ghost use Rattle.stack_rules.specs.Places as place;
 ghost use Rattle.stack_rules.specs.Sends as sends;
 ghost use Rattle.stack_rules.specs.Targets as targets;
+ghost use Rattle.rule_basics.specs.Live as live;
 ghost use Rattle.own_ledger.specs.Away.{IsAway};
 ghost use Rattle.own_ledger.specs.May.{MayIssue, MayEnter, MayPhase, MayNote, spares};
 ghost use Rattle.own_ledger.specs.View.{IsLow, IsPlain};
@@ -439,6 +440,20 @@ impl OwnLedger {
         ensures { result ≡ option_map (λ l. l.list) (sends.first_of (place.kept_lists self.now.net Miniport)) }
     {
         entries::oldest_in_ring(self.entries.as_slice())
+    }
+
+    /// Whether a list is live: issued and not home.
+    pub fn is_live(&self, list: ListNo) -> bool
+        ensures { result ≡ live.is_live list.0 (lists self.now.net.things) }
+    {
+        entries::is_live(self.entries.as_slice(), list.0)
+    }
+
+    /// Where a list stands; None where it isn't live.
+    pub fn stand(&self, list: ListNo) -> Option<Stand>
+        ensures { result ≡ option_map (λ l. l.stand) (list_of list.0 (lists self.now.net.things)) }
+    {
+        entries::stand_of(self.entries.as_slice(), list.0)
     }
 
     /// What holds of every ledger.
