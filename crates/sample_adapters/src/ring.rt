@@ -2,7 +2,7 @@
 ghost use Rattle.std.specs.Prelude.{◌≡◌, [], ◌≤◌, IfOk};
 ghost use Rattle.std.specs.VecDeque.{deque_capacity};
 ghost use Rattle.ndis_base.specs.declared.MiniportKind.TheVariants.{Ring};
-ghost use Rattle.sample_adapters.specs.Rings.{ring_of};
+ghost use Rattle.sample_adapters.specs.Rings.{ring_of, new_ring};
 
 use buffer_pools::{BufferList, KeptList};
 use driver_traits::{MiniportDriver, Served, Tray};
@@ -24,8 +24,10 @@ pub struct RingAdapter {
 }
 
 impl RingAdapter {
-    /// An adapter that is halted.
-    pub fn make(alloc: Global) -> Result<RingAdapter, OutOfMemory> {
+    /// An adapter that is halted and was never called: it keeps nothing, and its log is empty.
+    pub fn make(alloc: Global) -> Result<RingAdapter, OutOfMemory>
+        ensures { IfOk result (λ a. ⟦<RingAdapter as MiniportDriver>⟧.state a ≡ new_ring) }
+    {
         Ok(RingAdapter {
             port: None,
             served: Served::none(),

@@ -1,6 +1,7 @@
 //! A protocol that logs what is delivered to it.
-ghost use Rattle.std.specs.Prelude.{◌≡◌, [], IfOk, false};
+ghost use Rattle.std.specs.Prelude.{◌≡◌, IfOk};
 ghost use Rattle.ndis_base.specs.declared.ProtocolKind.TheVariants.{Log};
+ghost use Rattle.sample_protocols.specs.Logs.{new_log};
 
 use buffer_pools::BufferList;
 use driver_traits::{ProtocolDriver, Served};
@@ -17,8 +18,10 @@ pub struct LogProtocol {
 }
 
 impl LogProtocol {
-    /// A protocol that is bound to no adapter.
-    pub fn make(alloc: Global) -> Result<LogProtocol, OutOfMemory> {
+    /// A protocol that is bound to no adapter and was never called: its log is empty.
+    pub fn make(alloc: Global) -> Result<LogProtocol, OutOfMemory>
+        ensures { IfOk result (λ p. ⟦<LogProtocol as ProtocolDriver>⟧.state p ≡ new_log) }
+    {
         Ok(LogProtocol {
             is_open: false,
             served: Served::none(),
