@@ -1,9 +1,5 @@
 -- To take out the entry of a number is to take out its list, and to write at its place is to change it.
-<<<<<<< HEAD
-use Rattle.std.proofs.Common.{◌≡◌, ℕ, suc, zero, ◌==◌, ◌<◌, ◌||◌, ◌&&◌, not, cond, Bool, true, false, List, [], ◌∷◌, ◌++◌, Option, Some, None, length, get_or, set, option_map, map, refl, arith, sym, ap, ◌∙◌}
-=======
 use Rattle.std.proofs.Common.{◌≡◌, ℕ, suc, zero, ◌<◌, true, false, List, [], ◌∷◌, ◌++◌, Some, None, length, get_or, set, refl, arith}
->>>>>>> 45de07c1c439e2767cdfc6f4bfc51c918ea182f9
 use Rattle.std.specs.List.{remove}
 use Rattle.std.proofs.lemmas.Bool.Decides.{nat_tests}
 use Rattle.std.proofs.lemmas.List.{map-append}

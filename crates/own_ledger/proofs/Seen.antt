@@ -1,18 +1,4 @@
 -- What the queries of the state are, by the entries.
-<<<<<<< HEAD
-use Rattle.std.proofs.Common.{◌≡◌, ℕ, List, [], Option, Some, None, option_map, length, Bool, refl, ap, sym, ◌∙◌, find, map, filter, count_by}
-use Rattle.std.proofs.lemmas.List.Sums.{length-filter}
-use Rattle.ndis_base.specs.declared.ModuleId.{ModuleId}
-use Rattle.ndis_base.specs.declared.ModuleId.TheVariants.{Miniport}
-use Rattle.ndis_base.specs.declared.ListNo.{ListNo}
-use Rattle.stack_rules.specs.declared.LiveList.{LiveList}
-use Rattle.stack_rules.specs.declared.Thing.{Thing}
-use Rattle.stack_rules.specs.declared.Thing.TheVariants as thing
-use Rattle.stack_rules.specs.Net.{lists}
-use Rattle.stack_rules.specs.Places.{counts_at, is_kept_by, is_away, is_passed}
-use Rattle.stack_rules.specs.Sends.{first_of}
-use Rattle.stack_rules.specs.Tests.{same_module}
-=======
 use Rattle.std.proofs.Common.{◌≡◌, List, Option, Some, None, option_map, length, Bool, refl, ap, ◌∙◌, find, filter, count_by}
 use Rattle.std.proofs.lemmas.List.Sums.{length-filter}
 use Rattle.stack_rules.specs.declared.LiveList.{LiveList}
@@ -20,17 +6,12 @@ use Rattle.stack_rules.specs.declared.Thing.TheVariants as thing
 use Rattle.stack_rules.specs.Net.{lists}
 use Rattle.stack_rules.specs.Places.{is_away, is_passed}
 use Rattle.stack_rules.specs.Sends.{first_of}
->>>>>>> 45de07c1c439e2767cdfc6f4bfc51c918ea182f9
 use Rattle.rule_basics.specs.Live.{things_of}
 use Rattle.rule_basics.proofs.Lists.{lists-things_of}
 use Rattle.rule_basics.proofs.Counts.{count_by-map}
 use Rattle.rule_basics.proofs.Finds.{find-map, first_of-filter}
 use Rattle.own_ledger.specs.declared.entries.Entry.{Entry}
 use Rattle.own_ledger.specs.Entries.{list_in, lists_in}
-<<<<<<< HEAD
-use Rattle.own_ledger.specs.Places.{counts}
-=======
->>>>>>> 45de07c1c439e2767cdfc6f4bfc51c918ea182f9
 
 pub count_by-entries : (p : LiveList → Bool) (es : List Entry) → count_by p (lists (things_of (lists_in es))) ≡ count_by (λ e. p (list_in e)) es
 count_by-entries p es = ap (count_by p) (lists-things_of (lists_in es)) ∙ count_by-map p list_in es

@@ -1,9 +1,5 @@
 -- What the queries of a ledger's state are, by its fields.
-<<<<<<< HEAD
-use Rattle.std.proofs.Common.{◌≡◌, ℕ, ◌==◌, ◌↔◌, Bool, true, false, List, [], Option, Some, None, option_map, length, refl, ap, sym, ◌∙◌, subst, find, count_by, IfNone, IfSome, IsNone, is_none, arith}
-=======
 use Rattle.std.proofs.Common.{◌≡◌, ℕ, ◌==◌, ◌↔◌, true, false, List, [], Option, Some, None, option_map, length, refl, ap, sym, ◌∙◌, subst, find, count_by, IfNone, IfSome, IsNone}
->>>>>>> 45de07c1c439e2767cdfc6f4bfc51c918ea182f9
 use Rattle.std.specs.List.{list_all}
 use Rattle.ndis_base.specs.declared.ModuleId.{ModuleId}
 use Rattle.ndis_base.specs.declared.ModuleId.TheVariants.{Miniport}
@@ -14,13 +10,9 @@ use Rattle.stack_rules.specs.Places.{agenda_first, outstanding, owned, kept_list
 use Rattle.stack_rules.specs.Sends.{first_of, ring_is_full}
 use Rattle.stack_rules.specs.Pauses.{first_unpaused, running_floors}
 use Rattle.stack_rules.specs.Tests.{same_module, is_paused, is_running}
-<<<<<<< HEAD
-use Rattle.rule_basics.specs.Live.{IsApart, front_of_two}
-=======
 use Rattle.stack_rules.specs.Net.{lists, list_of}
 use Rattle.rule_basics.proofs.Finds.{find-map}
 use Rattle.rule_basics.specs.Live.{is_live, IsApart, front_of_two}
->>>>>>> 45de07c1c439e2767cdfc6f4bfc51c918ea182f9
 use Rattle.rule_basics.proofs.Lists.{lists-things_of}
 use Rattle.rule_basics.proofs.Plain.{first_unpaused-plain, running_floors-plain}
 use Rattle.own_ledger.specs.declared.AwayList.{AwayList}
@@ -101,8 +93,6 @@ pub plain-view : (v : LedgerView) (a : Inside) → view_of a ≡ v → IsLedger 
 plain-view v a h i =
     let P : LedgerView → Type 0 = λ w. IsPlain w.net in
     subst P h (record { apart = subst IsApart (sym (lists-things_of (lists_in a.entries.items))) i.apart; order = refl; filters = refl; requests = refl; messages = refl })
-<<<<<<< HEAD
-=======
 
 pub is_live-view : (v : LedgerView) (a : Inside) → view_of a ≡ v → (n : ℕ) (es : List Entry) → es ≡ a.entries.items → is_live n (lists v.net.things) ≡ is_live n (lists_in es)
 is_live-view v a h n es e =
@@ -119,4 +109,3 @@ stand-view v a h n es e =
     let at : List Entry → Option Entry = λ xs. find (λ e. e.list.0 == n) xs in
     let found : list_of n (lists_in a.entries.items) ≡ option_map list_in (at a.entries.items) = find-map (λ l. l.list.0 == n) list_in a.entries.items in
     subst P h (ap (λ ls. option_map (λ l. l.stand) (list_of n ls)) (lists-things_of (lists_in a.entries.items)) ∙ ap (option_map (λ l. l.stand)) found ∙ stand_in (at a.entries.items) ∙ ap (λ xs. option_map (λ e. e.stand) (at xs)) (sym e))
->>>>>>> 45de07c1c439e2767cdfc6f4bfc51c918ea182f9

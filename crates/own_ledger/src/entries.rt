@@ -1,9 +1,5 @@
 //! The live lists, as entries of a vector.
-<<<<<<< HEAD
-ghost use Rattle.std.specs.Prelude.{◌≡◌, false, ℕ, ◌+◌, ◌<◌, ◌≤◌, [], Some, None, IfSome, IfNone, length, slice_index_or, option_map, count_by, find};
-=======
 ghost use Rattle.std.specs.Prelude.{◌≡◌, ◌==◌, false, ℕ, ◌+◌, ◌<◌, ◌≤◌, [], Some, None, IfSome, IfNone, length, slice_index_or, option_map, count_by, find};
->>>>>>> 45de07c1c439e2767cdfc6f4bfc51c918ea182f9
 ghost use Rattle.std.specs.Vec.{vec_len, vec_capacity};
 ghost use Rattle.ndis_base.specs.declared.ModuleId.TheVariants.{Miniport};
 ghost use Rattle.stack_rules.specs.Net.{list_of, had_by, kept_by, passed_to};
