@@ -3,6 +3,8 @@ use Rattle.std.proofs.Common.{◌≡◌, ℕ, suc, ◌-◌, length, arith, List,
 use Rattle.journal_types.specs.declared.StackHead.{StackHead}
 use Rattle.journal_types.specs.declared.PortSetup.{PortSetup}
 use Rattle.journal_types.specs.declared.Row.{Row}
+use Rattle.journal_types.specs.declared.Row.TheVariants as row
+use Rattle.journal_types.specs.declared.PhaseOf.TheVariants as of
 use Rattle.journal_types.specs.declared.Turn.{Turn}
 use Rattle.std.proofs.Common.{◌+◌, ◌*◌, ◌<◌, ◌≤◌, take, slice_index_or, map}
 use Rattle.std.proofs.lemmas.List.{take_more, map-append, length-map, length-take}
@@ -26,13 +28,34 @@ use Rattle.driver_traits.specs.Miniport.Sends.{keeps, lacks}
 use Rattle.driver_traits.specs.Miniport.Transmits.{idles, wires}
 use Rattle.stack_core.specs.Core.{Follows, states_of}
 
-rows_more : (net : Net) (rows : List Row) (row : Row) → after_rows net (rows ++ row ∷ []) ≡ after (after_rows net rows) row
-rows_more net [] row = refl
-rows_more net (r ∷ rows) row = rows_more (after net r) rows row
+rows_more : (net : Net) (rows : List Row) (r : Row) → after_rows net (rows ++ r ∷ []) ≡ after (after_rows net rows) r
+rows_more net [] x = refl
+rows_more net (r ∷ rows) x = rows_more (after net r) rows x
 
-pub row_follows : (head : StackHead) (turns : List Turn) (net : Net) (rows : List Row) (row : Row) → Follows head turns net rows → Follows head turns (after net row) (rows ++ row ∷ [])
-row_follows head turns net rows row f = record {
-  state = ap (λ n. after n row) f.state ∙ sym (rows_more (seen head turns) rows row);
+head_after : (net : Net) (r : Row) → (after net r).head ≡ net.head
+head_after net (row.Issue list owner config direction cancel origin frames) = refl
+head_after net (row.Give list m handler) = refl
+head_after net (row.Pass list way to) = refl
+head_after net (row.Keep list m) = refl
+head_after net (row.TurnBack list m status) = refl
+head_after net (row.Home list owner status) = refl
+head_after net (row.Wire list frames) = refl
+head_after net (row.Deliver list binding how frames) = refl
+head_after net (row.Phase (of.Module m s)) = refl
+head_after net (row.Phase (of.Stack p)) = refl
+head_after net (row.Config config filters) = refl
+head_after net (row.OidIssue request parent binding kind code value) = refl
+head_after net (row.OidGive request m) = refl
+head_after net (row.OidDone request status value) = refl
+head_after net (row.Status number name to) = refl
+head_after net (row.Seen number m) = refl
+head_after net (row.CrossOut message way frames) = refl
+head_after net (row.CrossIn stack message way frames) = refl
+
+pub row_follows : (head : StackHead) (turns : List Turn) (net : Net) (rows : List Row) (r : Row) → Follows head turns net rows → Follows head turns (after net r) (rows ++ r ∷ [])
+row_follows head turns net rows r f = record {
+  state = ap (λ n. after n r) f.state ∙ sym (rows_more (seen head turns) rows r);
+  head_is = head_after net r ∙ f.head_is;
   sound = f.sound;
   first = f.first;
 }
@@ -41,8 +64,8 @@ row_follows head turns net rows row f = record {
 abbrev pub TrayFollows : StackHead → List Turn → TrayView → Type 0
 TrayFollows head turns t = Follows head turns t.net t.rows
 
-pub tray_written : (head : StackHead) (turns : List Turn) (t : TrayView) (row : Row) → TrayFollows head turns t → TrayFollows head turns (written t row)
-tray_written head turns t row f = row_follows head turns t.net t.rows row f
+pub tray_written : (head : StackHead) (turns : List Turn) (t : TrayView) (r : Row) → TrayFollows head turns t → TrayFollows head turns (written t r)
+tray_written head turns t r f = row_follows head turns t.net t.rows r f
 
 sends_follow : (head : StackHead) (turns : List Turn) (capacity : ℕ) (kept : List ListView) (l : ListView) (t : TrayView) (kept' : List ListView) (t' : TrayView)
     → Sends capacity kept l t kept' t' → TrayFollows head turns t → TrayFollows head turns t'
@@ -82,6 +105,7 @@ turn_follows head turns net turn f next first =
     ap (λ n. after_rows n turn.rows) (told_nothing (seen head turns) turn.event turn.reply first) in
     record {
       state = f.state ∙ sym (more ∙ plain);
+      head_is = f.head_is;
       sound = sound_more (start head) turns turn f.sound next;
       first = subst IsFirst (sym more) (first_kept (seen head turns) turn f.first next first);
     }

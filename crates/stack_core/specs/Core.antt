@@ -21,6 +21,7 @@ use Rattle.stack_core.specs.Views.{CoreView}
 -- that is built
 pub record Follows (head : StackHead) (turns : List Turn) (net : Net) (rows : List Row) : Type 0 where
   pub state : net ≡ after_rows (seen head turns) rows
+  pub head_is : net.head ≡ head
   pub sound : Sound head turns
   pub first : IsFirst (seen head turns)
 

@@ -2,7 +2,7 @@
 //! the bindings.
 #![tactic(auto)]
 
-ghost use Rattle.std.specs.Prelude.{◌≡◌, ◌+◌, ◌-◌, ◌≤◌, ◌<◌, ◌^◌, ◌∷◌, [], ◌*◌, List, None, Some, IsSome, OnOk, OnErr, IfOk, All, length, slice_index_or, slice_set};
+ghost use Rattle.std.specs.Prelude.{◌≡◌, ◌≢◌, ◌+◌, ◌-◌, ◌≤◌, ◌<◌, ◌^◌, ◌∷◌, [], ◌*◌, List, None, Some, IsSome, OnOk, OnErr, IfOk, All, length, slice_index_or, slice_set};
 ghost use Rattle.journal_types.specs.Sizes.{turn_bytes};
 ghost use Rattle.stack_rules.specs.Net.{seen, start};
 ghost use Rattle.stack_rules.specs.Sound.{Next};
@@ -177,7 +177,7 @@ impl Core {
     pub fn issue(&mut self, binding: usize, label: Label, frames: &[Frame]) -> BufferList
         requires within { binding < length self.old.pools }
         requires fits { Fits frames.now (slice_index_or self.old.pools binding no_pool).bytes }
-        requires spare { live_count (slice_index_or self.old.pools binding no_pool) < (slice_index_or self.old.pools binding no_pool).size }
+        requires spare { live_count (slice_index_or self.old.pools binding no_pool) ≢ (slice_index_or self.old.pools binding no_pool).size }
         ensures label { result.label ≡ label }
         ensures frames { result.frames ≡ frames.now }
         ensures issues { Issues (slice_index_or self.old.pools binding no_pool) result (slice_index_or self.new.pools binding no_pool) }
@@ -262,7 +262,7 @@ impl Core {
 fn issue_at(pools: &mut Vec<ListPool>, binding: usize, label: Label, frames: &[Frame]) -> BufferList
     requires within { binding < length pools.old.items }
     requires fits { Fits frames.now (slice_index_or pools.old.items binding no_pool).bytes }
-    requires spare { live_count (slice_index_or pools.old.items binding no_pool) < (slice_index_or pools.old.items binding no_pool).size }
+    requires spare { live_count (slice_index_or pools.old.items binding no_pool) ≢ (slice_index_or pools.old.items binding no_pool).size }
     ensures label { result.label ≡ label }
     ensures frames { result.frames ≡ frames.now }
     ensures issues { Issues (slice_index_or pools.old.items binding no_pool) result (slice_index_or pools.new.items binding no_pool) }
@@ -273,7 +273,7 @@ fn issue_at(pools: &mut Vec<ListPool>, binding: usize, label: Label, frames: &[F
 
 fn issue_from(pool: &mut ListPool, label: Label, frames: &[Frame]) -> BufferList
     requires fits { Fits frames.now pool.old.bytes }
-    requires spare { live_count pool.old < pool.old.size }
+    requires spare { live_count pool.old ≢ pool.old.size }
     ensures label { result.label ≡ label }
     ensures frames { result.frames ≡ frames.now }
     ensures issues { Issues pool.old result pool.new }
