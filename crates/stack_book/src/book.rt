@@ -104,6 +104,7 @@ impl Book {
         ensures number { result ≡ list_no (⟦<Book as Shown>⟧.shown self.old).core.tray.net.next.list }
         ensures writes { Writes (⟦<Book as Shown>⟧.shown self.old) (⟦<Book as Shown>⟧.shown self.new) (sent (⟦<Book as Shown>⟧.shown self.old).core.tray.net binding cancel frames.now) }
     {
+        self.core.facts();
         let owner = ModuleId::Binding(binding);
         let number = self.core.ledger().next_list();
         let config = self.core.ledger().config();
@@ -144,6 +145,7 @@ impl Book {
         ensures stands { Stands (⟦<Book as Shown>⟧.shown self.new) }
         ensures writes { (l : LiveList) → place.agenda_first (⟦<Book as Shown>⟧.shown self.old).core.tray.net ≡ Some (thing.List l) → Writes (⟦<Book as Shown>⟧.shown self.old) (⟦<Book as Shown>⟧.shown self.new) (miniport_rows (⟦<Book as Shown>⟧.shown self.old).core.tray.net l) }
     {
+        self.core.facts();
         let Some(list) = self.core.dequeue() else {
             unreachable!()
         };
@@ -165,6 +167,7 @@ impl Book {
         ensures stands { Stands (⟦<Book as Shown>⟧.shown self.new) }
         ensures writes { (l : LiveList) → place.agenda_first (⟦<Book as Shown>⟧.shown self.old).core.tray.net ≡ Some (thing.List l) → Writes (⟦<Book as Shown>⟧.shown self.old) (⟦<Book as Shown>⟧.shown self.new) (home_rows (⟦<Book as Shown>⟧.shown self.old).core.tray.net l status) }
     {
+        self.core.facts();
         let Some(list) = self.core.dequeue() else {
             unreachable!()
         };
@@ -188,6 +191,7 @@ impl Book {
         ensures unchanged { IfNone result (Writes (⟦<Book as Shown>⟧.shown self.old) (⟦<Book as Shown>⟧.shown self.new) []) }
         ensures writes { IfSome result (λ n. (l : LiveList) × (rest : List LiveList) × (place.kept_lists (⟦<Book as Shown>⟧.shown self.old).core.tray.net Miniport ≡ l ∷ rest) × (n ≡ l.list) × Writes (⟦<Book as Shown>⟧.shown self.old) (⟦<Book as Shown>⟧.shown self.new) (transmitted (⟦<Book as Shown>⟧.shown self.old).core.tray.net l)) }
     {
+        self.core.facts();
         let running = self.core.ledger().phase() == Phase::Running;
         self.core.set_caller(ModuleId::Miniport);
         self.core.transmit_by(&mut self.miniport, running)
