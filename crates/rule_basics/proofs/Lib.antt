@@ -5,3 +5,4 @@ pub mod Each
 pub mod Counts
 pub mod Finds
 pub mod Plain
+pub mod Numbered

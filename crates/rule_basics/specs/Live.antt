@@ -1,5 +1,5 @@
 -- The live lists by their numbers.
-use Rattle.std.specs.Prelude.{ℕ, ◌≡◌, ◌==◌, ◌||◌, not, Bool, false, List, [], ◌∷◌, ◌++◌, Option, Some, None, filter, map, if◌then◌else◌}
+use Rattle.std.specs.Prelude.{ℕ, ◌≡◌, ◌<◌, ◌==◌, ◌||◌, not, Bool, false, List, [], ◌∷◌, ◌++◌, Option, Some, None, filter, map, if◌then◌else◌}
 use Rattle.stack_rules.specs.declared.LiveList.{LiveList}
 use Rattle.stack_rules.specs.declared.Thing.{Thing}
 use Rattle.stack_rules.specs.declared.Thing.TheVariants as thing
@@ -46,3 +46,7 @@ Each P (l ∷ ls) = P l × Each P ls
 -- how many of two positions at the front pass
 abbrev pub front_of_two : Bool → Bool → ℕ
 front_of_two a b = if a then (if b then 2 else 1) else 0
+
+-- every number is below this one
+abbrev pub IsBelow : ℕ → List LiveList → Type 0
+IsBelow n ls = Each (λ l. l.list.0 < n) ls
