@@ -1,2 +1,4 @@
 pub mod Pools
 pub mod Sends
+pub mod Gives
+pub mod Taken

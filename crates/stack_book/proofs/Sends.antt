@@ -41,6 +41,7 @@ sent_stands b binding l pool config to frames s within issues number owner fits 
   agrees = issued b.core.tray.net l config way.Down to b.core.tray.queue b.miniport.kept b.core.pools binding pool s.agrees (omega (arith, pools_length b.core.pools b.core.head.bindings s.pools)) issues number owner;
   pools = pools_set b.core.pools b.core.head.bindings binding pool s.pools within issues.size issues.bytes;
   short = short_more b.core.tray.queue b.miniport.kept l s.short fits;
+  ring = s.ring;
   protocols = s.protocols;
   drivers = s.drivers;
 }

@@ -39,6 +39,7 @@ pub record Stands (b : BookView) : Type 0 where
   pub agrees : Agrees b.core.tray.net b.core.tray.queue b.miniport.kept b.core.pools
   pub pools : ArePoolsOf b.core.pools b.core.head.bindings
   pub short : All IsShort (b.core.tray.queue ++ b.miniport.kept)
+  pub ring : length b.miniport.kept ≤ b.core.head.port.ring
   pub protocols : length b.protocols ≡ length b.core.head.bindings
   pub drivers : DriversFit b b.core.tray.net.phase
 

@@ -1,5 +1,5 @@
 //! Calls of one boxed driver among others.
-ghost use Rattle.std.specs.Prelude.{◌≡◌, ◌+◌, ◌≤◌, ◌<◌, ◌++◌, [], ℕ, List, All, OnOk, OnErr, length, map, take, drop, slice_index_or};
+ghost use Rattle.std.specs.Prelude.{◌≡◌, ◌+◌, ◌≤◌, ◌<◌, ◌++◌, true, [], ℕ, List, All, OnOk, OnErr, length, map, take, drop, slice_index_or};
 ghost use Rattle.driver_traits.specs.Counts.{one_send_complete};
 ghost use Rattle.driver_traits.specs.Protocol.{ProtocolState};
 ghost use Rattle.stack_book.specs.Stands.{IsClosed, IsFarProtocol};
