@@ -3,3 +3,4 @@ pub mod Stands
 pub mod Calls
 pub mod Events
 pub mod Turns
+pub mod Open

@@ -66,12 +66,12 @@ pub record IsReady (b : BookView) : Type 0 where
   pub completes : All IsFarProtocol b.protocols
 
 -- these rows were written, and nothing else of the journal changed
-pub record Writes (old new : BookView) (rows : List Row) : Type 0 where
+pub record Writes (old new : BookView) (written : List Row) : Type 0 where
   pub head : new.core.head ≡ old.core.head
   pub turns : new.core.turns ≡ old.core.turns
-  pub net : new.core.tray.net ≡ after_rows old.core.tray.net rows
-  pub rows : new.core.tray.rows ≡ old.core.tray.rows ++ rows
-  pub room : old.core.tray.room ≤ new.core.tray.room + length rows
+  pub net : new.core.tray.net ≡ after_rows old.core.tray.net written
+  pub rows : new.core.tray.rows ≡ old.core.tray.rows ++ written
+  pub room : old.core.tray.room ≤ new.core.tray.room + length written
   pub row_room : new.core.row_room ≡ old.core.row_room
   pub byte_room : new.core.byte_room ≡ old.core.byte_room
 
