@@ -1,5 +1,5 @@
 -- Boxed drivers of a list, as contracts see them.
-use Rattle.std.proofs.Common.{add-one, length-set, ◌≡◌, ℕ, zero, suc, ◌+◌, ◌<◌, ◌≤◌, Bool, true, false, List, [], ◌∷◌, ◌++◌, length, map, take, drop, slice_get, slice_set, slice_index_or, Some, All, refl, sym, ◌∙◌, ap, subst, arith, option_map}
+use Rattle.std.proofs.Common.{add-one, Result, Ok, Err, OnErr, length-set, ◌≡◌, ℕ, zero, suc, ◌+◌, ◌<◌, ◌≤◌, Bool, true, false, List, [], ◌∷◌, ◌++◌, length, map, take, drop, slice_get, slice_set, slice_index_or, Some, All, refl, sym, ◌∙◌, ap, subst, arith, option_map}
 use Rattle.std.proofs.lemmas.List.{map-set, length-map, get_or-map, set-set, get_or-set_same, take_all, drop_all, drop_more, drop-set-lt, append-nil}
 use Rattle.std.proofs.lemmas.List.Edits.{map_over_more}
 use Rattle.std.proofs.Math.Seq.{map-set_same}
@@ -104,3 +104,7 @@ claimed_all P f xs i h all = subst (All P) (take_all i (map f xs) (omega (arith,
 
 pub same_count : {X S : Type 0} (f : X → S) (xs ys : List X) (i : ℕ) (y : X) → map f ys ≡ map f (slice_set xs i y) → length ys ≡ length xs
 same_count f xs ys i y e = sym (length-map ys f) ∙ ap length e ∙ length-map (slice_set xs i y) f ∙ length-set xs i y
+
+pub on_err : {T E : Type 0} (r : Result T E) (P : Type 0) → P → OnErr r P
+on_err (Ok x) P p = tt
+on_err (Err e) P p = p
