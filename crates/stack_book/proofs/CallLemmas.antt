@@ -1,5 +1,5 @@
 -- Boxed drivers of a list, as contracts see them.
-use Rattle.std.proofs.Common.{add-one, Result, Ok, Err, OnErr, length-set, ◌≡◌, ℕ, zero, suc, ◌+◌, ◌<◌, ◌≤◌, Bool, true, false, List, [], ◌∷◌, ◌++◌, length, map, take, drop, slice_get, slice_set, slice_index_or, Some, All, refl, sym, ◌∙◌, ap, subst, arith, option_map}
+use Rattle.std.proofs.Common.{add-one, Result, Ok, Err, OnErr, length-set, ◌≡◌, ℕ, zero, suc, ◌+◌, ◌<◌, ◌≤◌, List, [], ◌∷◌, ◌++◌, length, map, take, drop, slice_get, slice_set, slice_index_or, Some, All, refl, sym, ◌∙◌, ap, subst, arith, option_map}
 use Rattle.std.proofs.lemmas.List.{map-set, length-map, get_or-map, set-set, get_or-set_same, take_all, drop_all, drop_more, drop-set-lt, append-nil}
 use Rattle.std.proofs.lemmas.List.Edits.{map_over_more}
 use Rattle.std.proofs.Math.Seq.{map-set_same}
@@ -58,8 +58,8 @@ pub closed_again_at : {X : Type 0} (f : X → ProtocolState) (xs ys : List X) (i
     → IsClosed (f x) → f y ≡ opened (f x) → map f ys ≡ map f (slice_set xs i y) → f z ≡ closed (f x') → map f (slice_set ys i z) ≡ map f xs
 closed_again_at f xs ys i x y x' z h count e e' was up same down =
     let there : f x' ≡ f y =
-        view_at f ys i x' (omega (arith, count)) e' ∙ ap (λ ss. slice_index_or ss i (f x')) (same ∙ map-set f xs i y)
-        ∙ get_or-set_same (map f xs) i (f y) (f x') (omega (arith, length-map xs f)) in
+    view_at f ys i x' (omega (arith, count)) e' ∙ ap (λ ss. slice_index_or ss i (f x')) (same ∙ map-set f xs i y)
+    ∙ get_or-set_same (map f xs) i (f y) (f x') (omega (arith, length-map xs f)) in
     let back : f z ≡ f x = down ∙ ap closed (there ∙ up) ∙ close_again (f x) was in
     map-set f ys i z ∙ ap (λ ss. slice_set ss i (f z)) (same ∙ map-set f xs i y) ∙ set-set (map f xs) i (f y) (f z)
     ∙ sym (map-set f xs i z) ∙ unseen_at f xs i x z e back

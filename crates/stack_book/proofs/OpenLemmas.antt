@@ -1,5 +1,5 @@
 -- Opening a book.
-use Rattle.std.proofs.Common.{◌≡◌, ℕ, ◌+◌, ◌-◌, ◌<◌, ◌≤◌, List, [], ◌∷◌, ◌++◌, length, map, take, drop, remove, slice_index_or, All, refl, sym, ◌∙◌, ap, subst, arith}
+use Rattle.std.proofs.Common.{◌≡◌, ℕ, ◌+◌, ◌<◌, List, [], ◌∷◌, ◌++◌, length, map, take, drop, slice_index_or, All, refl, ap}
 use Rattle.std.proofs.lemmas.List.{map-append, take-map, drop-map, take_more}
 use Rattle.std.proofs.lemmas.List.Elements.{All-nil, All-append, All-take, All-drop, All-push}
 use Rattle.std.proofs.Math.Seq.{drop-append_seam, take-append_seam}
@@ -7,11 +7,9 @@ use Rattle.ndis_base.specs.declared.ProtocolKind.{ProtocolKind}
 use Rattle.journal_types.specs.declared.StackHead.{StackHead}
 use Rattle.buffer_pools.specs.Views.{PoolView, live_count}
 use Rattle.stack_rules.specs.Net.{start}
-use Rattle.held_lists.specs.Held.{Agrees}
 use Rattle.held_lists.proofs.Rows.{agrees_start}
-use Rattle.driver_traits.specs.Protocol.{ProtocolState}
 use Rattle.stack_book.specs.Views.{BookView}
-use Rattle.stack_book.specs.Stands.{Stands, IsClosed, IsShort, ArePoolsOf}
+use Rattle.stack_book.specs.Stands.{IsClosed, IsShort, ArePoolsOf}
 use Rattle.stack_book.specs.Open.{ArePools, pool_for, IsHaltedDriver, IsOpened}
 
 -- one more pool

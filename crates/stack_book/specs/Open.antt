@@ -4,7 +4,6 @@ use Rattle.ndis_base.specs.declared.ProtocolKind.{ProtocolKind}
 use Rattle.journal_types.specs.declared.StackHead.{StackHead}
 use Rattle.buffer_pools.specs.Views.{PoolView}
 use Rattle.driver_traits.specs.Miniport.{MiniportState}
-use Rattle.driver_traits.specs.Protocol.{ProtocolState}
 use Rattle.stack_rules.specs.Net.{start}
 use Rattle.stack_book.specs.Views.{BookView}
 use Rattle.stack_book.specs.Parts.{PartsView}

@@ -40,10 +40,7 @@ fn first_protocol(protocols: &[Box<dyn ProtocolDriver>], kind: ProtocolKind) -> 
 }
 
 /// The pools of the bindings.
-fn make_pools(
-    alloc: Global,
-    setups: &[(ProtocolKind, usize)],
-) -> Result<Vec<ListPool>, OutOfMemory>
+fn make_pools(alloc: Global, setups: &[(ProtocolKind, usize)]) -> Result<Vec<ListPool>, OutOfMemory>
     ensures { IfOk result (λ v. ArePools v.items setups.now) }
 {
     let mut pools = Vec::with_capacity(alloc, setups.len())?;
@@ -90,10 +87,7 @@ fn put_before<T>(items: &mut Vec<T>, item: T)
 }
 
 /// Puts protocols before the others.
-fn put_first(
-    protocols: &mut Vec<Box<dyn ProtocolDriver>>,
-    chosen: Vec<Box<dyn ProtocolDriver>>,
-)
+fn put_first(protocols: &mut Vec<Box<dyn ProtocolDriver>>, chosen: Vec<Box<dyn ProtocolDriver>>)
     requires room { length protocols.old.items + length chosen.items ≤ vec_capacity protocols.old }
     ensures { protocols.new.items ≡ chosen.items ++ protocols.old.items }
 {

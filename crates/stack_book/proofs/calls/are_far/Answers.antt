@@ -1,4 +1,3 @@
-use Rattle.std.proofs.Common.{arith}
 use Rattle.stack_book.specs.Stands.{IsFarProtocol}
 use Rattle.stack_book.proofs.CallLemmas.{claimed_more, claimed_all}
 use Rattle.stack_book.proofs.calls.are_far.Goals as goal

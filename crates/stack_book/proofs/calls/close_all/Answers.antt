@@ -1,7 +1,7 @@
 use Rattle.std.proofs.Common.{◌∙◌, length-set, arith, sym}
 use Rattle.std.proofs.lemmas.List.{length-map}
 use Rattle.stack_book.specs.Calls.{closed}
-use Rattle.stack_book.proofs.CallLemmas.{called_at, called_all}
+use Rattle.stack_book.proofs.CallLemmas.{called_at}
 use Rattle.stack_book.proofs.calls.close_all.Goals as goal
 
 pub loop-i-preserved : goal.loop-i-preserved

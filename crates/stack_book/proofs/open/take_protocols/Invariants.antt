@@ -1,4 +1,4 @@
-use Rattle.std.proofs.Common.{◌≡◌, ◌+◌, ◌≤◌, length, map, All}
+use Rattle.std.proofs.Common.{◌≡◌, ◌+◌, length, map, All}
 use Rattle.std.specs.Vec.{vec_capacity}
 use Rattle.stack_book.specs.Stands.{IsClosed}
 use Rattle.stack_book.proofs.open.take_protocols.Given as goal
