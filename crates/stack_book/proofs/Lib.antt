@@ -2,3 +2,5 @@ pub mod Pools
 pub mod Sends
 pub mod Gives
 pub mod Taken
+pub mod CallLemmas
+pub mod OpenLemmas

@@ -3,4 +3,5 @@ pub mod Stands
 pub mod Calls
 pub mod Events
 pub mod Turns
+pub mod Parts
 pub mod Open

@@ -4,9 +4,9 @@ use Rattle.ndis_base.specs.declared.ProtocolKind.{ProtocolKind}
 use Rattle.journal_types.specs.declared.StackHead.{StackHead}
 use Rattle.buffer_pools.specs.Views.{PoolView}
 use Rattle.driver_traits.specs.Miniport.{MiniportState}
-use Rattle.driver_traits.specs.Protocol.{ProtocolState}
 use Rattle.stack_rules.specs.Net.{start}
 use Rattle.stack_book.specs.Views.{BookView}
+use Rattle.stack_book.specs.Parts.{PartsView}
 use Rattle.stack_book.specs.Stands.{Stands, IsClosed}
 
 -- a miniport as it may be handed in: halted, and it keeps nothing
@@ -24,9 +24,9 @@ ArePools (p ∷ ps) (s ∷ ss) = (p ≡ pool_for s) × ArePools ps ss
 ArePools _ _ = ⊥
 
 -- all drivers that are handed in are halted or closed, and keep nothing
-pub record AreIdle (miniports : List MiniportState) (protocols : List ProtocolState) : Type 0 where
-  pub miniports_halted : All IsHaltedDriver miniports
-  pub protocols_closed : All IsClosed protocols
+pub record AreIdle (parts : PartsView) : Type 0 where
+  pub miniports_halted : All IsHaltedDriver parts.miniports
+  pub protocols_closed : All IsClosed parts.protocols
 
 -- a stack of this head without turns
 pub record IsOpened (head : StackHead) (b : BookView) : Type 0 where

@@ -1,5 +1,5 @@
 //! Calls of one boxed driver among others.
-ghost use Rattle.std.specs.Prelude.{◌≡◌, ◌+◌, ◌≤◌, ◌<◌, ◌++◌, true, [], ℕ, List, All, OnOk, OnErr, length, map, take, drop, slice_index_or};
+ghost use Rattle.std.specs.Prelude.{◌≡◌, ◌+◌, ◌≤◌, ◌<◌, ◌++◌, [], ℕ, List, All, OnOk, OnErr, true, length, map, take, drop};
 ghost use Rattle.driver_traits.specs.Counts.{one_send_complete};
 ghost use Rattle.driver_traits.specs.Protocol.{ProtocolState};
 ghost use Rattle.stack_book.specs.Stands.{IsClosed, IsFarProtocol};
@@ -58,7 +58,7 @@ pub fn open_from(
 ) -> Result<(), OutOfMemory>
     requires count { length setups.now ≡ length protocols.old.items }
     requires within { from ≤ length protocols.old.items }
-    requires closed { All IsClosed (map (λ b. state b) protocols.old.items) }
+    requires closed { All IsClosed (drop from (map (λ b. state b) protocols.old.items)) }
     ensures ok { OnOk result (map (λ b. state b) protocols.new.items ≡ take from (map (λ b. state b) protocols.old.items) ++ map opened (drop from (map (λ b. state b) protocols.old.items))) }
     ensures err { OnErr result (map (λ b. state b) protocols.new.items ≡ map (λ b. state b) protocols.old.items) }
 {
