@@ -12,4 +12,4 @@ returns-in_err-pop_front c =
 pub returns : goal.returns
 returns c =
     let kept : c.args.self.now.ring.items ≡ c.into_list-list.result ∷ c.pop_front.new.self.items = cc c.in_ok-pop_front.ensures.items in
-    wires_at _ _ _ _ _ _ _ _ _ _ _ _ kept c.number-number.ensures c.push.ensures.entries c.wire.ensures c.pass_back.ensures
+    wires_at _ _ _ _ _ _ _ _ _ _ _ _ kept c.number-number.ensures (cc) c.wire.ensures c.pass_back.ensures
