@@ -1,1 +1,1 @@
-pub mod Transmitting
+pub mod RingCalls
