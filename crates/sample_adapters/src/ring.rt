@@ -1,16 +1,16 @@
 //! An adapter with a transmit ring.
-ghost use Rattle.std.specs.Prelude.{◌≡◌, [], ◌≤◌, IfOk};
-ghost use Rattle.std.specs.VecDeque.{deque_capacity};
+ghost use Rattle.std.specs.Prelude.{◌≡◌, IfOk};
+ghost use Rattle.std.specs.Option.{ForSome};
 ghost use Rattle.ndis_base.specs.declared.MiniportKind.TheVariants.{Ring};
-ghost use Rattle.sample_adapters.specs.Rings.{ring_of, new_ring};
+ghost use Rattle.sample_adapters.specs.Rings.{new_ring};
 
 use buffer_pools::{BufferList, KeptList};
+use circular_buffer::HeapCircularBuffer;
 use driver_traits::{MiniportDriver, Served, Tray};
 use frame_log::FrameLog;
 use journal_types::PortSetup;
 use ndis_base::{ListNo, ListStatus, MiniportKind, OutOfMemory};
 use std::alloc::Global;
-use std::collections::VecDeque;
 
 /// A ring adapter keeps the lists that it is sent in its ring, and turns a list back where the ring
 /// is full. Told to transmit, it puts its oldest list onto the wire, which is its log.
@@ -18,9 +18,9 @@ use std::collections::VecDeque;
 pub struct RingAdapter {
     port: Option<PortSetup>,
     served: Served,
-    ring: VecDeque<KeptList>,
+    ring: HeapCircularBuffer<KeptList>,
     log: FrameLog,
-    ghost roomy: { ring_of port ≤ deque_capacity ring },
+    ghost sized: { ForSome port (λ setup. ring.capacity ≡ setup.ring) },
 }
 
 impl RingAdapter {
@@ -31,7 +31,7 @@ impl RingAdapter {
         Ok(RingAdapter {
             port: None,
             served: Served::none(),
-            ring: VecDeque::new(alloc),
+            ring: HeapCircularBuffer::with_capacity(alloc, 0)?,
             log: FrameLog::make(alloc)?,
         })
     }
@@ -60,19 +60,18 @@ impl MiniportDriver for RingAdapter {
         self.log.make_room(max)
     }
 
-    fn initialize(&mut self, _alloc: Global, setup: PortSetup) -> Result<(), OutOfMemory> {
-        self.ring.reserve(setup.ring)?;
+    fn initialize(&mut self, alloc: Global, setup: PortSetup) -> Result<(), OutOfMemory> {
+        self.ring = HeapCircularBuffer::with_capacity(alloc, setup.ring)?;
         self.port = Some(setup);
         Ok(())
     }
 
     fn send(&mut self, list: BufferList, tray: &mut Tray) {
         self.served.send += 1;
-        if self.ring.len() < ring_size(self.port) {
-            tray.keep_note(list.number());
-            self.ring.push_back_reserved(KeptList::of(list));
-        } else {
-            tray.turn_back(list, ListStatus::Resources);
+        let number = list.number();
+        match self.ring.try_push_back(KeptList::of(list)) {
+            Ok(()) => tray.keep_note(number),
+            Err(kept) => tray.turn_back(kept.into_list(), ListStatus::Resources),
         }
     }
 
@@ -99,15 +98,5 @@ impl MiniportDriver for RingAdapter {
 
     fn log_frame(&self, list: usize, buffer: usize) -> &[u8] {
         self.log.frame(list, buffer)
-    }
-}
-
-/// How many lists the ring holds.
-fn ring_size(port: Option<PortSetup>) -> usize
-    ensures { result ≡ ring_of port }
-{
-    match port {
-        Some(setup) => setup.ring,
-        None => 0,
     }
 }
