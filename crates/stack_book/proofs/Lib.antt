@@ -4,3 +4,5 @@ pub mod Gives
 pub mod Taken
 pub mod CallLemmas
 pub mod OpenLemmas
+pub mod Wired
+pub mod Homes

@@ -63,6 +63,7 @@ opened_book head b is turns net rows queue pools halted closed count = record {
     agrees = rw (queue, halted.kept, net) (agrees_start (start head) b.core.pools refl (pools_empty b.core.pools head.bindings pools));
     pools = rw is (pools_fit b.core.pools head.bindings pools);
     short = rw (queue, halted.kept) (All-nil IsShort);
+    ring = rw halted.kept (omega arith);
     protocols = rw is count;
     drivers = rw net (halted.port, closed);
   };

@@ -89,7 +89,7 @@ short_of {b} {c} {l} {at} g = subst (λ (x : CoreView). All IsShort (x.tray.queu
 pub pools_of : {b : BookView} {c : CoreView} {l : ListView} {at : Stand} → Takes b c l at → ArePoolsOf c.pools c.head.bindings
 pools_of g = subst (λ (x : CoreView). ArePoolsOf x.pools x.head.bindings) g.core g.stands.pools
 
-some_same : (o : Option Thing) (x y : LiveList) → o ≡ Some (thing.List x) → o ≡ Some (thing.List y) → x ≡ y
+pub some_same : (o : Option Thing) (x y : LiveList) → o ≡ Some (thing.List x) → o ≡ Some (thing.List y) → x ≡ y
 some_same o x y e f = cc
 
 -- it is the live list that is first on its way
@@ -102,7 +102,7 @@ taken_is {b} {c} {l} {at} g =
 pub set_up_of : {b : BookView} {c : CoreView} {l : ListView} {at : Stand} → Takes b c l at → b.miniport.port ≡ Some b.core.head.port
 set_up_of {b} g = set_up b g.stands g.is_first _ g.first.first
 
-some_port : (o : Option PortSetup) (p : PortSetup) → o ≡ Some p → IsSome o
+pub some_port : (o : Option PortSetup) (p : PortSetup) → o ≡ Some p → IsSome o
 some_port o p e = subst IsSome (sym e) refl
 
 -- the miniport may be given it
@@ -132,21 +132,23 @@ drivers_still b after phase.Pausing d port head protocols = port ∙ d ∙ ap (�
 abbrev pub changed_book : BookView → CoreView → TrayView → MiniportState → ℕ → ℕ → BookView
 changed_book b c t m room bytes = record { core = record c { tray = t }; miniport = m; log_room = room; log_bytes = bytes; protocols = b.protocols }
 
+pub changed_base : {b : BookView} (c : CoreView) (t : TrayView) (m : MiniportState) (room bytes : ℕ) → Stands b
+    → c.head ≡ b.core.head → m.port ≡ b.miniport.port → t.net.phase ≡ b.core.tray.net.phase → ArePoolsOf c.pools c.head.bindings
+    → Agrees t.net t.queue m.kept c.pools → All IsShort (t.queue ++ m.kept) → length m.kept ≤ b.core.head.port.ring → Stands (changed_book b c t m room bytes)
+changed_base {b} c t m room bytes s head port phase pools agrees short ring = record {
+  agrees = agrees;
+  pools = pools;
+  short = short;
+  ring = subst (λ (h : StackHead). length m.kept ≤ h.port.ring) (sym head) ring;
+  protocols = subst (λ (h : StackHead). length b.protocols ≡ length h.bindings) (sym head) s.protocols;
+  drivers = subst (DriversFit (changed_book b c t m room bytes)) (sym phase) (drivers_still b (changed_book b c t m room bytes) b.core.tray.net.phase s.drivers port head refl);
+}
+
 pub changed_stands : {b : BookView} {c : CoreView} {l : ListView} {at : Stand} (t : TrayView) (m : MiniportState) (room bytes : ℕ) → Takes b c l at
     → m.port ≡ b.miniport.port → t.net.phase ≡ c.tray.net.phase
     → Agrees t.net t.queue m.kept c.pools → All IsShort (t.queue ++ m.kept) → length m.kept ≤ b.core.head.port.ring → Stands (changed_book b c t m room bytes)
 changed_stands {b} {c} {l} {at} t m room bytes g port same agrees short ring =
-    let head : b.core.head ≡ c.head = ap (λ (x : CoreView). x.head) g.core in
-    let after : BookView = changed_book b c t m room bytes in
-    let phase : b.core.tray.net.phase ≡ t.net.phase = ap (λ (n : Net). n.phase) (net_of g) ∙ sym same in
-    record {
-      agrees = agrees;
-      pools = pools_of g;
-      short = short;
-      ring = subst (λ (h : StackHead). length m.kept ≤ h.port.ring) head ring;
-      protocols = subst (λ (h : StackHead). length b.protocols ≡ length h.bindings) head g.stands.protocols;
-      drivers = subst (DriversFit after) phase (drivers_still b after b.core.tray.net.phase g.stands.drivers port (sym head) refl);
-    }
+    changed_base c t m room bytes g.stands (sym (ap (λ (x : CoreView). x.head) g.core)) port (same ∙ ap (λ (n : Net). n.phase) (sym (net_of g))) (pools_of g) agrees short ring
 
 short_kept : (l : ListView) (queue kept : List ListView) → All IsShort ((l ∷ queue) ++ kept) → All IsShort (queue ++ (kept ++ l ∷ []))
 short_kept l queue kept h =
@@ -193,6 +195,9 @@ pub given_stands : {b : BookView} {c : CoreView} {l : ListView} {at : Stand} (t 
     → IsSent b.miniport l (given_tray c.tray l) m t → Stands (changed_book b c t m room bytes)
 given_stands {b} {c} {l} {at} t m room bytes g sent =
     given_by t m room bytes g (ap (λ (x : MiniportState). x.port) sent.same) (sent.by b.core.head.port (set_up_of g))
+
+pub appended_two : (xs : List Row) (p q : Row) → (xs ++ p ∷ []) ++ q ∷ [] ≡ xs ++ p ∷ q ∷ []
+appended_two xs p q = append_assoc xs (p ∷ []) (q ∷ [])
 
 appended_three : (xs : List Row) (p q r : Row) → ((xs ++ p ∷ []) ++ q ∷ []) ++ r ∷ [] ≡ xs ++ p ∷ q ∷ r ∷ []
 appended_three xs p q r = append_assoc (xs ++ p ∷ []) (q ∷ []) (r ∷ []) ∙ append_assoc xs (p ∷ []) (q ∷ r ∷ [])
