@@ -224,6 +224,7 @@ impl Book {
 
     fn set_up(&mut self, alloc: Global) -> Result<(), OutOfMemory>
         requires stands { Stands (⟦<Book as Shown>⟧.shown self.old) }
+        requires ready { IsReady (⟦<Book as Shown>⟧.shown self.old) }
         requires halted { (⟦<Book as Shown>⟧.shown self.old).core.tray.net.phase ≡ Phase.Halted }
         ensures ok { OnOk result (IsSetUp (⟦<Book as Shown>⟧.shown self.old) (⟦<Book as Shown>⟧.shown self.new)) }
         ensures same { OnErr result (Same (⟦<Book as Shown>⟧.shown self.old) (⟦<Book as Shown>⟧.shown self.new)) }
