@@ -381,3 +381,13 @@ initialize_stands b b' c c1 c2 c3 s same e1 e2 e3 e4 m ps =
     (ap (λ (x : MiniportState). x.kept) m) (ap length ps ∙ length-map b.protocols opened)
     (last_phase (after b.core.tray.net (state_row state.Paused Miniport)) (state.Opening ∷ state.Paused ∷ []) (binding_ids 0 b.core.tray.net.modules.bindings) opened_end phase.Paused (λ n. refl)) tt
     (ap (λ (x : MiniportState). x.port) m)
+
+pub initialize_room : (b c c1 c2 : CoreView) → IsFirst b.tray.net → 64 ≤ b.tray.room → c ≡ b → c1 ≡ wrote c (state_row state.Paused Miniport ∷ []) → c2 ≡ wrote c1 (opening_rows c1.tray.net) → 2 ≤ c2.tray.room
+initialize_room b c c1 c2 first room same e1 e2 =
+    let on : c1 ≡ wrote b (state_row state.Paused Miniport ∷ []) = e1 ∙ ap (λ x. wrote x (state_row state.Paused Miniport ∷ [])) same in
+    let few : length c1.tray.net.modules.bindings ≤ 8 =
+    omega (arith, ap length (bindings_there b c1 (state_row state.Paused Miniport ∷ []) on refl), few_bindings b.tray.net first) in
+    room_left c1 c2 (state.Opening ∷ state.Paused ∷ []) 2 e2 (omega arith) few (omega (arith, room_one b c1 (state_row state.Paused Miniport) 63 on (omega (arith, room))))
+
+pub no_filters : (c c1 : CoreView) (filters : List ℕ) → filters ≡ [] → c1 ≡ wrote c (row.Config (config_no 1) filters ∷ []) → c1 ≡ wrote c (row.Config (config_no 1) [] ∷ [])
+no_filters c c1 filters none e = e ∙ ap (λ fs. wrote c (row.Config (config_no 1) fs ∷ [])) none
