@@ -21,7 +21,7 @@ use Rattle.stack_rules.specs.Net.{Net, lists, after, after_rows, seen}
 use Rattle.stack_rules.specs.Places.{is_kept_by}
 use Rattle.stack_rules.specs.Outcome.{config_no}
 use Rattle.stack_rules.specs.Pauses.{state_row, state_rows, binding_ids, initialize_rows, paused_rows, restart_rows, halt_rows}
-use Rattle.held_lists.specs.Held.{Agrees, Common, in_hand, in_state}
+use Rattle.held_lists.specs.Held.{Agrees, in_hand, in_state}
 use Rattle.held_lists.proofs.Rows.{same_things}
 use Rattle.first_form.specs.First.{IsFirst, PhaseFits}
 use Rattle.first_form.proofs.States.{after_rows-append}

@@ -14,9 +14,11 @@ write_states-requires-clause-room g c =
 
 pub write-requires-clause-room : goal.write-requires-clause-room
 write-requires-clause-room g c =
-    omega
-    (arith, room_one c.write_bindings.new.self _ (state_row state.Halted Miniport) 1 c.write_states.ensures
-    (room_left _ _ (state.Closing ∷ state.Unbound ∷ []) 2 c.write_bindings.ensures (omega arith) (few_bindings _ (first_now _ _ _ _ c.facts.ensures c.requires.ready.idle)) (omega (arith, c.requires.ready.rows))))
+    omega (
+      arith,
+      room_one c.write_bindings.new.self _ (state_row state.Halted Miniport) 1 c.write_states.ensures
+          (room_left _ _ (state.Closing ∷ state.Unbound ∷ []) 2 c.write_bindings.ensures (omega arith) (few_bindings _ (first_now _ _ _ _ c.facts.ensures c.requires.ready.idle)) (omega (arith, c.requires.ready.rows))),
+    )
 
 pub returns-clause-stands : goal.returns-clause-stands
 returns-clause-stands g c = halt_stands _ _ _ _ c.requires.stands c.write_bindings.ensures c.write_states.ensures c.write.ensures c.halt_boxed.ensures c.close_all.ensures
