@@ -6,3 +6,4 @@ pub mod CallLemmas
 pub mod OpenLemmas
 pub mod Wired
 pub mod Homes
+pub mod Phases

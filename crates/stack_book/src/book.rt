@@ -26,7 +26,7 @@ use crate::parts::StackParts;
 use buffer_pools::Label;
 use driver_traits::{MiniportDriver, ProtocolDriver};
 use journal_types::{
-    Asked, FilterList, Frames, Handler, PassWay, PhaseOf, Reply, Row, StackHead,
+    Asked, FilterList, Frames, Handler, PassWay, PhaseOf, PortSetup, Reply, Row, StackHead,
 };
 use ndis_base::{
     ConfigNo, Direction, ListNo, ListStatus, ModuleId, ModuleState, Origin, OutOfMemory, Phase,
@@ -207,6 +207,7 @@ impl Book {
         ensures writes { OnOk result (Writes (⟦<Book as Shown>⟧.shown self.old) (⟦<Book as Shown>⟧.shown self.new) (pauses.initialize_rows (⟦<Book as Shown>⟧.shown self.old).core.tray.net)) }
         ensures same { OnErr result (Same (⟦<Book as Shown>⟧.shown self.old) (⟦<Book as Shown>⟧.shown self.new)) }
     {
+        self.core.facts();
         self.set_up(alloc)?;
         self.core
             .write_states(ModuleId::Miniport, &[ModuleState::Paused]);
@@ -224,17 +225,19 @@ impl Book {
 
     fn set_up(&mut self, alloc: Global) -> Result<(), OutOfMemory>
         requires stands { Stands (⟦<Book as Shown>⟧.shown self.old) }
+        requires ready { IsReady (⟦<Book as Shown>⟧.shown self.old) }
         requires halted { (⟦<Book as Shown>⟧.shown self.old).core.tray.net.phase ≡ Phase.Halted }
         ensures ok { OnOk result (IsSetUp (⟦<Book as Shown>⟧.shown self.old) (⟦<Book as Shown>⟧.shown self.new)) }
         ensures same { OnErr result (Same (⟦<Book as Shown>⟧.shown self.old) (⟦<Book as Shown>⟧.shown self.new)) }
     {
+        self.core.facts();
         let port = self.core.head().port;
-        self.miniport.initialize(alloc, port)?;
+        initialize_boxed(&mut self.miniport, alloc, port)?;
         let setups = self.core.head().bindings.items();
         match open_from(&mut self.protocols, 0, alloc, setups) {
             Ok(()) => Ok(()),
             Err(fault) => {
-                self.miniport.halt();
+                halt_boxed(&mut self.miniport);
                 Err(fault)
             }
         }
@@ -250,7 +253,7 @@ impl Book {
     {
         self.core.facts();
         close_all(&mut self.protocols);
-        self.miniport.halt();
+        halt_boxed(&mut self.miniport);
         self.core
             .write_bindings(&[ModuleState::Closing, ModuleState::Unbound]);
         self.core
@@ -268,6 +271,7 @@ impl Book {
         ensures stands { Stands (⟦<Book as Shown>⟧.shown self.new) }
         ensures writes { Writes (⟦<Book as Shown>⟧.shown self.old) (⟦<Book as Shown>⟧.shown self.new) (begin_rows (⟦<Book as Shown>⟧.shown self.old).core.tray.net) }
     {
+        self.core.facts();
         pause_all(&mut self.protocols);
         self.core.write(Row::Phase {
             of: PhaseOf::Stack(Phase::Pausing),
@@ -287,7 +291,7 @@ impl Book {
         self.core.write_bindings(&[ModuleState::Paused]);
         self.core
             .write_states(ModuleId::Miniport, &[ModuleState::Pausing]);
-        self.miniport.pause();
+        pause_boxed(&mut self.miniport);
     }
 
     /// The miniport is Paused, and so is the stack.
@@ -322,7 +326,7 @@ impl Book {
             ModuleId::Miniport,
             &[ModuleState::Restarting, ModuleState::Running],
         );
-        self.miniport.restart();
+        restart_boxed(&mut self.miniport);
     }
 
     /// The bindings of a Restarting stack run again, and so does the stack.
@@ -354,4 +358,36 @@ impl Book {
     {
         self.core.finish(asked, reply);
     }
+}
+
+fn initialize_boxed(
+    miniport: &mut Box<dyn MiniportDriver>,
+    alloc: Global,
+    setup: PortSetup,
+) -> Result<(), OutOfMemory>
+    requires halted { (state miniport.old).port ≡ None }
+    requires empty { (state miniport.old).kept ≡ [] }
+    ensures ok { OnOk result (state miniport.new ≡ record (state miniport.old) { port = Some setup }) }
+    ensures err { OnErr result (state miniport.new ≡ state miniport.old) }
+{
+    miniport.initialize(alloc, setup)
+}
+
+fn halt_boxed(miniport: &mut Box<dyn MiniportDriver>)
+    requires { (state miniport.old).kept ≡ [] }
+    ensures { state miniport.new ≡ record (state miniport.old) { port = None } }
+{
+    miniport.halt();
+}
+
+fn pause_boxed(miniport: &mut Box<dyn MiniportDriver>)
+    ensures { state miniport.new ≡ state miniport.old }
+{
+    miniport.pause();
+}
+
+fn restart_boxed(miniport: &mut Box<dyn MiniportDriver>)
+    ensures { state miniport.new ≡ state miniport.old }
+{
+    miniport.restart();
 }
