@@ -1,5 +1,5 @@
 -- Opening a book.
-use Rattle.std.proofs.Common.{◌≡◌, ℕ, ◌+◌, ◌<◌, List, [], ◌∷◌, ◌++◌, length, map, take, drop, slice_index_or, All, refl, ap}
+use Rattle.std.proofs.Common.{◌≡◌, ℕ, ◌+◌, ◌<◌, List, [], ◌∷◌, ◌++◌, length, map, take, drop, slice_index_or, All, refl, ap, arith}
 use Rattle.std.proofs.lemmas.List.{map-append, take-map, drop-map, take_more}
 use Rattle.std.proofs.lemmas.List.Elements.{All-nil, All-append, All-take, All-drop, All-push}
 use Rattle.std.proofs.Math.Seq.{drop-append_seam, take-append_seam}

@@ -139,6 +139,7 @@ stands_after b b' rows s e q kept count drivers =
       agrees = rw (net, queue, kept, pools) held;
       pools = rw (pools, head) s.pools;
       short = rw (queue, kept) s.short;
+      ring = rw (kept, head) s.ring;
       protocols = count ∙ s.protocols ∙ ap (λ (h : StackHead). length h.bindings) (sym head);
       drivers = subst (DriversFit b') (ap (λ (n : Net). n.phase) (sym net)) drivers;
     }
