@@ -1,11 +1,9 @@
 -- A list is given to the miniport.
-use Rattle.std.proofs.Common.{◌≡◌, ◌≢◌, ℕ, ◌+◌, ◌<◌, ◌≤◌, ◌==◌, Bool, true, false, List, [], ◌∷◌, ◌++◌, Option, Some, None, length, filter, find, refl, sym, ap, ◌∙◌, arith, subst, All, IsSome}
-use Rattle.std.proofs.lemmas.Bool.Decides.{nat_tests}
-use Rattle.std.proofs.lemmas.List.Elements.{All-append, All-cons, All-nil, All-head, All-tail, All-filter, filter-append}
+use Rattle.std.proofs.Common.{◌≡◌, ◌≢◌, false, List, [], ◌∷◌, ◌++◌, Option, Some, None, filter, find, refl, sym, ap, ◌∙◌, subst, All}
+use Rattle.std.proofs.lemmas.List.Elements.{All-filter, filter-append}
 use Rattle.ndis_base.specs.declared.Phase.{Phase}
 use Rattle.ndis_base.specs.declared.Phase.TheVariants as phase
 use Rattle.ndis_base.specs.declared.ListNo.{ListNo}
-use Rattle.ndis_base.specs.declared.ModuleId.TheVariants.{Miniport, Binding}
 use Rattle.journal_types.specs.declared.StackHead.{StackHead}
 use Rattle.journal_types.specs.declared.Row.{Row}
 use Rattle.journal_types.specs.declared.Turn.{Turn}
@@ -17,14 +15,14 @@ use Rattle.stack_rules.specs.Places.{agenda_first, is_away}
 use Rattle.first_form.specs.First.{IsFirst, PhaseFits}
 use Rattle.first_form.proofs.Kept.{fits_at}
 use Rattle.first_form.proofs.Rings.{things_are}
-use Rattle.held_lists.specs.Held.{Common, in_hand, in_state, is_absent, Agrees}
+use Rattle.held_lists.specs.Held.{Common, is_absent, Agrees}
 use Rattle.held_lists.proofs.Numbers.{absent_without}
-use Rattle.held_lists.proofs.Holds.{Holds, Found, found_first, holds_from, passes, stays, passed_not_kept}
+use Rattle.held_lists.proofs.Holds.{Holds, found_first, holds_from, passes, stays, passed_not_kept}
 use Rattle.held_lists.proofs.Pools.{apart_seen}
 use Rattle.held_lists.proofs.Tells.{pumps_none}
 use Rattle.stack_core.specs.Core.{Follows}
 use Rattle.stack_book.specs.Views.{BookView}
-use Rattle.stack_book.specs.Stands.{Stands, DriversFit, IsShort}
+use Rattle.stack_book.specs.Stands.{Stands, DriversFit}
 
 -- between turns the state is of the first form
 pub first_now : (head : StackHead) (turns : List Turn) (net : Net) (rows : List Row) → Follows head turns net rows → rows ≡ [] → IsFirst net

@@ -1,9 +1,8 @@
 -- A list comes home to its binding.
-use Rattle.std.proofs.Common.{◌≡◌, ℕ, ◌+◌, ◌-◌, ◌<◌, ◌≤◌, List, [], ◌∷◌, ◌++◌, Option, Some, None, length, slice_index_or, slice_set, length-set, refl, sym, ap, ◌∙◌, arith, subst, All}
+use Rattle.std.proofs.Common.{◌≡◌, ℕ, ◌<◌, ◌≤◌, List, [], ◌∷◌, ◌++◌, Option, Some, None, length, slice_index_or, slice_set, length-set, refl, sym, ap, ◌∙◌, arith, subst}
 use Rattle.std.proofs.lemmas.List.Elements.{All-tail}
 use Rattle.ndis_base.specs.declared.ListNo.{ListNo}
 use Rattle.ndis_base.specs.declared.ListStatus.{ListStatus}
-use Rattle.ndis_base.specs.declared.ModuleId.{ModuleId}
 use Rattle.ndis_base.specs.declared.ModuleId.TheVariants.{Binding}
 use Rattle.ndis_base.specs.declared.Origin.TheVariants as origin
 use Rattle.ndis_base.specs.declared.Phase.{Phase}
@@ -22,11 +21,11 @@ use Rattle.stack_rules.specs.Net.{Net, after_rows}
 use Rattle.stack_rules.specs.Dones.{home_rows, released}
 use Rattle.stack_rules.specs.Places.{agenda_first}
 use Rattle.first_form.specs.First.{IsFirstStand}
-use Rattle.held_lists.specs.Held.{Common, no_pool, IsHoused}
+use Rattle.held_lists.specs.Held.{Common, no_pool}
 use Rattle.held_lists.proofs.Rows.{homed}
 use Rattle.held_lists.proofs.Pools.{of_pool}
 use Rattle.held_lists.proofs.Tells.{first_housed}
-use Rattle.driver_traits.specs.Tray.{TrayView, written}
+use Rattle.driver_traits.specs.Tray.{written}
 use Rattle.driver_traits.specs.Protocol.{ProtocolState}
 use Rattle.stack_core.specs.Views.{CoreView}
 use Rattle.stack_book.specs.Views.{BookView}

@@ -7,3 +7,4 @@ pub mod OpenLemmas
 pub mod Wired
 pub mod Homes
 pub mod Phases
+pub mod Ready

@@ -1,5 +1,5 @@
 -- A send leaves a book in which everything agrees.
-use Rattle.std.proofs.Common.{◌≡◌, ℕ, ◌-◌, ◌<◌, List, [], ◌∷◌, ◌++◌, length, slice_index_or, slice_set, refl, sym, ap, ◌∙◌, arith, subst, All}
+use Rattle.std.proofs.Common.{◌≡◌, ℕ, ◌-◌, ◌<◌, List, [], ◌∷◌, ◌++◌, length, slice_index_or, slice_set, ap, ◌∙◌, arith, All}
 use Rattle.std.proofs.lemmas.List.Elements.{All-append, All-cons, All-nil}
 use Rattle.held_lists.proofs.Splits.{all_left, all_right}
 use Rattle.ndis_base.specs.declared.ConfigNo.{ConfigNo}
@@ -10,14 +10,13 @@ use Rattle.journal_types.specs.declared.Row.{Row}
 use Rattle.journal_types.specs.declared.Row.TheVariants as row
 use Rattle.buffer_pools.specs.Views.{ListView, PoolView, Issues, Fits}
 use Rattle.row_frames.specs.Spare.{SpareView}
-use Rattle.stack_rules.specs.Net.{after}
 use Rattle.stack_rules.specs.Outcome.{list_no}
 use Rattle.held_lists.specs.Held.{no_pool}
 use Rattle.held_lists.proofs.Rows.{issued}
 use Rattle.driver_traits.specs.Tray.{written, queued}
 use Rattle.stack_core.specs.Views.{CoreView}
 use Rattle.stack_book.specs.Views.{BookView}
-use Rattle.stack_book.specs.Stands.{Stands, IsShort, DriversFit}
+use Rattle.stack_book.specs.Stands.{Stands, IsShort}
 use Rattle.stack_book.proofs.Pools.{pools_length, pools_set}
 
 -- the core after a send

@@ -1,34 +1,31 @@
 -- The miniport transmits the oldest list of its ring.
-use Rattle.std.proofs.Common.{◌≡◌, ℕ, ◌+◌, ◌-◌, ◌<◌, ◌≤◌, ◌^◌, true, List, [], ◌∷◌, ◌++◌, Option, Some, None, length, filter, refl, sym, ap, ap₂, ◌∙◌, arith, subst, All, IsSome, IfSome, IfNone}
-use Rattle.std.proofs.lemmas.List.{append_assoc, append-nil}
+use Rattle.std.proofs.Common.{◌≡◌, ℕ, List, [], ◌∷◌, ◌++◌, Option, Some, length, refl, sym, ap, ◌∙◌, arith, subst, All, IfSome, IfNone}
+use Rattle.std.proofs.lemmas.List.{append-nil}
 use Rattle.std.proofs.lemmas.List.Elements.{All-append, All-cons, All-nil, All-head, All-tail, All-filter}
 use Rattle.ndis_base.specs.declared.ListNo.{ListNo}
 use Rattle.ndis_base.specs.declared.ListStatus.TheVariants.{Success}
 use Rattle.ndis_base.specs.declared.Direction.TheVariants as direction
 use Rattle.ndis_base.specs.declared.ModuleId.TheVariants.{Miniport}
-use Rattle.journal_types.specs.declared.StackHead.{StackHead}
 use Rattle.journal_types.specs.declared.PassWay.TheVariants as way
 use Rattle.journal_types.specs.declared.Row.{Row}
 use Rattle.journal_types.specs.declared.Row.TheVariants as row
 use Rattle.journal_types.specs.declared.Target.{Target}
-use Rattle.journal_types.specs.declared.Target.TheVariants.{Module}
-use Rattle.buffer_pools.specs.Views.{ListView, Fits}
+use Rattle.buffer_pools.specs.Views.{ListView}
 use Rattle.stack_rules.specs.declared.LiveList.{LiveList}
-use Rattle.stack_rules.specs.Net.{Net, lists, after_rows}
+use Rattle.stack_rules.specs.Net.{Net, lists}
 use Rattle.stack_rules.specs.Places.{kept_lists, is_kept_by, position}
 use Rattle.stack_rules.specs.Sends.{transmitted}
 use Rattle.stack_rules.specs.Targets.{homeward_by, next_done}
 use Rattle.first_form.specs.First.{IsFirst, IsFirstList}
 use Rattle.first_form.proofs.Rings.{lists_first}
 use Rattle.first_form.proofs.Moves.{no_loop}
-use Rattle.held_lists.specs.Held.{Common, in_hand, in_state, Agrees}
+use Rattle.held_lists.specs.Held.{Common, in_hand, Agrees}
 use Rattle.held_lists.proofs.Splits.{all_left, all_right}
 use Rattle.held_lists.proofs.Rows as step
-use Rattle.held_lists.proofs.Tells.{IsOldest, oldest_kept, none_kept}
+use Rattle.held_lists.proofs.Tells.{oldest_kept, none_kept}
 use Rattle.driver_traits.specs.Tray.{TrayView, written, queued, wired, passed_back}
 use Rattle.driver_traits.specs.Miniport.{MiniportState, MayTransmit, Transmits}
 use Rattle.driver_traits.specs.Miniport.Transmits.{idles, wires}
-use Rattle.stack_core.specs.Views.{CoreView}
 use Rattle.stack_core.specs.Core.{Follows}
 use Rattle.stack_book.specs.Views.{BookView}
 use Rattle.stack_book.specs.Stands.{Stands, IsReady, IsShort, Writes}

@@ -8,11 +8,10 @@ use Rattle.journal_types.specs.declared.Row.TheVariants as row
 use Rattle.stack_rules.specs.Net.{Net}
 use Rattle.stack_rules.specs.Pauses.{state_rows, binding_ids}
 use Rattle.stack_book.specs.Calls.{opened}
-use Rattle.ndis_base.specs.declared.ModuleId.TheVariants.{Miniport}
 use Rattle.stack_rules.specs.declared.Stand.{Stand}
 use Rattle.stack_rules.specs.declared.LiveList.{LiveList}
 use Rattle.stack_rules.specs.declared.Thing.TheVariants as thing
-use Rattle.stack_rules.specs.Places.{agenda_first, kept_lists}
+use Rattle.stack_rules.specs.Places.{agenda_first}
 use Rattle.first_form.specs.First.{IsFirstList}
 use Rattle.stack_book.specs.Views.{BookView}
 

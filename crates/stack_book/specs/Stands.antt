@@ -1,15 +1,12 @@
 -- The drivers, the pools and the lists in hand agree with the state.
-use Rattle.std.specs.Prelude.{◌≡◌, ℕ, ◌+◌, ◌<◌, ◌≤◌, ◌^◌, false, true, List, [], ◌∷◌, ◌++◌, Option, Some, None, length, map, All, slice_index_or}
+use Rattle.std.specs.Prelude.{◌≡◌, ℕ, ◌+◌, ◌<◌, ◌≤◌, ◌^◌, false, List, [], ◌∷◌, ◌++◌, Some, None, length, All}
 use Rattle.ndis_base.specs.declared.Phase.{Phase}
 use Rattle.ndis_base.specs.declared.Phase.TheVariants as phase
 use Rattle.ndis_base.specs.declared.ProtocolKind.{ProtocolKind}
-use Rattle.journal_types.specs.declared.StackHead.{StackHead}
 use Rattle.journal_types.specs.declared.Row.{Row}
 use Rattle.buffer_pools.specs.Views.{ListView, PoolView, Fits}
-use Rattle.stack_rules.specs.Net.{Net, after_rows}
+use Rattle.stack_rules.specs.Net.{after_rows}
 use Rattle.held_lists.specs.Held.{Agrees}
-use Rattle.driver_traits.specs.Tray.{TrayView}
-use Rattle.driver_traits.specs.Miniport.{MiniportState}
 use Rattle.driver_traits.specs.Protocol.{ProtocolState}
 use Rattle.stack_book.specs.Views.{BookView}
 

@@ -86,11 +86,11 @@ impl Book {
         ensures same { Same (⟦<Book as Shown>⟧.shown self.old) (⟦<Book as Shown>⟧.shown self.new) }
         ensures ready { OnOk result (IsReady (⟦<Book as Shown>⟧.shown self.new)) }
     {
-        if self.miniport.served().send >= 1 << 62 || !are_far(self.protocols.as_slice()) {
+        if !is_far_boxed(&self.miniport) || !are_far(self.protocols.as_slice()) {
             return Err(OutOfMemory);
         }
         self.core.make_room()?;
-        self.miniport.make_room(stack_core::MAX_FRAME)
+        make_boxed_room(&mut self.miniport)
     }
 
     /// Issues a send of a binding, whose pool isn't full, and passes it down.
@@ -390,4 +390,18 @@ fn restart_boxed(miniport: &mut Box<dyn MiniportDriver>)
     ensures { state miniport.new ≡ state miniport.old }
 {
     miniport.restart();
+}
+
+fn is_far_boxed(miniport: &Box<dyn MiniportDriver>) -> bool
+    ensures { result ≡ true → (state miniport.now).served.send < 2 ^ 62 }
+{
+    miniport.served().send < 1 << 62
+}
+
+fn make_boxed_room(miniport: &mut Box<dyn MiniportDriver>) -> Result<(), OutOfMemory>
+    ensures state { state miniport.new ≡ state miniport.old }
+    ensures room { OnOk result (0 < log_room miniport.new) }
+    ensures bytes { OnOk result (1518 ≤ log_bytes miniport.new) }
+{
+    miniport.make_room(stack_core::MAX_FRAME)
 }

@@ -1,6 +1,4 @@
-use Rattle.std.proofs.Common.{ap, ◌∙◌, refl}
-use Rattle.stack_core.specs.Views.{CoreView}
-use Rattle.buffer_pools.specs.Views.{PoolView}
+use Rattle.std.proofs.Common.{refl}
 use Rattle.stack_book.proofs.Gives.{first_now, none_first}
 use Rattle.stack_book.proofs.Taken.{takes}
 use Rattle.stack_book.proofs.Homes.{within_pools, is_of, home_core_is, home_stands, home_writes}

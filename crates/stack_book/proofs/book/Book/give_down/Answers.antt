@@ -1,7 +1,4 @@
-use Rattle.std.proofs.Common.{ap, ◌∙◌, refl}
-use Rattle.ndis_base.specs.declared.ListNo.{ListNo}
-use Rattle.stack_core.specs.Views.{CoreView}
-use Rattle.driver_traits.specs.Miniport.{MaySend, IsSent}
+use Rattle.std.proofs.Common.{refl}
 use Rattle.stack_book.proofs.Gives.{first_now, none_first}
 use Rattle.stack_book.proofs.Taken.{takes, may_send, given_stands, given_writes, given_core}
 use Rattle.stack_book.proofs.book.Book.give_down.Goals as goal

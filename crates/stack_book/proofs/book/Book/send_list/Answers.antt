@@ -1,9 +1,7 @@
-use Rattle.std.proofs.Common.{◌≡◌, ◌≤◌, ◌∙◌, ap, sym, arith, length}
-use Rattle.std.proofs.Common.{◌-◌, slice_index_or, refl}
+use Rattle.std.proofs.Common.{◌≡◌, ◌≤◌, ◌∙◌, ap, arith, length}
+use Rattle.std.proofs.Common.{refl}
 use Rattle.ndis_base.specs.declared.ListNo.{ListNo}
 use Rattle.buffer_pools.specs.declared.label.Label.{Label}
-use Rattle.held_lists.specs.Held.{no_pool}
-use Rattle.stack_rules.specs.Outcome.{list_no}
 use Rattle.stack_core.specs.Views.{CoreView}
 use Rattle.stack_book.proofs.Pools.{pools_length, pool_of_setup, has_spare, may_issue}
 use Rattle.stack_book.proofs.Sends.{sent_core_is, sent_stands}

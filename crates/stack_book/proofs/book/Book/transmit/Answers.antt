@@ -1,4 +1,3 @@
-use Rattle.std.proofs.Common.{ap, ◌∙◌, refl}
 use Rattle.stack_book.proofs.Wired.{wiring, may_transmit, wired_stands, wired_none, wired_still, wired_writes}
 use Rattle.stack_book.proofs.book.Book.transmit.Goals as goal
 
