@@ -1,9 +1,8 @@
 -- What an event's function wrote and answers becomes a turn that may come next.
 use Rattle.std.proofs.Common.{◌≡◌, ℕ, ◌+◌, ◌*◌, ◌≤◌, true, List, [], ◌∷◌, ◌++◌, length, sum_by, refl, sym, ap, ap₂, ◌∙◌, arith, subst, All}
 use Rattle.std.proofs.lemmas.List.Elements.{All-head, All-tail}
+use Rattle.std.proofs.lemmas.List.Sums.{sum_by-cons}
 use Rattle.journal_types.specs.declared.Asked.{Asked}
-use Rattle.journal_types.specs.declared.Event.{Event}
-use Rattle.journal_types.specs.declared.Event.TheVariants as event
 use Rattle.journal_types.specs.declared.Reply.{Reply}
 use Rattle.journal_types.specs.declared.Reply.TheVariants as reply
 use Rattle.journal_types.specs.declared.Row.{Row}
@@ -119,4 +118,4 @@ fits_bytes frames h =
         let rest : sum_by length fs ≤ length fs * 1518 = sum fs (All-tail (λ f. length f ≤ 1518) f fs a) in
         let here : length f ≤ 1518 = All-head (λ f. length f ≤ 1518) f fs a in
         let both : length f + sum_by length fs ≤ (1 + length fs) * 1518 = omega (arith, rest, here) in
-        both
+        rw (sum_by-cons length f fs) (omega (arith, both))
