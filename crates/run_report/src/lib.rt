@@ -3,6 +3,8 @@
 
 pub mod refused;
 pub mod report;
+#[cfg(test)]
+mod tests;
 
 ghost use Rattle.std.specs.Prelude.{◌≡◌};
 
