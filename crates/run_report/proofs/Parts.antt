@@ -1,0 +1,109 @@
+use Rattle.std.proofs.Common.{◌≡◌, ℕ, ◌+◌, ◌≤◌, ◌<◌, List, [], ◌∷◌, ◌++◌, length, take, drop, slice_index_or, Option, Some, None, min, inl, inr, refl, sym, ◌∙◌, ap, subst, arith, append_assoc, append-nil}
+use Rattle.std.specs.Prelude.{◌⊎◌, flat_map, Result, Ok, Err, OnErr}
+use Rattle.std.specs.List.{concat}
+use Rattle.std.proofs.lemmas.List.{drop_more, take-append-le, take_all}
+use Rattle.std.proofs.Math.Seq.{take-append-add, take-append_seam}
+use Rattle.outside_io.specs.Edges.{after, AddsPrefix}
+use Rattle.outside_io.proofs.Pieces.{after-more}
+
+-- A text of which a part is written: what was held at first and is held now, the rest, and the whole.
+pub record Wrote (was held : Option (List ℕ)) (rest whole : List ℕ) : Type 0 where
+  pub written : List ℕ
+  pub is : held ≡ after was written
+  pub all : written ++ rest ≡ whole
+
+-- nothing is written yet
+pub wrote-none : (was : Option (List ℕ)) (whole : List ℕ) → Wrote was was whole whole
+wrote-none was whole = record { written = []; is = same was; all = refl }
+  where
+    same : (was : Option (List ℕ)) → was ≡ after was []
+    same None = refl
+    same (Some held) = ap Some (sym (append-nil held))
+
+-- the next piece is written
+pub wrote-next : (was held now : Option (List ℕ)) (piece rest whole : List ℕ) → Wrote was held (piece ++ rest) whole → now ≡ after held piece → Wrote was now rest whole
+wrote-next was held now piece rest whole w e = record {
+  written = w.written ++ piece;
+  is = after-more was held now w.written piece w.is e;
+  all = append_assoc w.written piece rest ∙ w.all;
+}
+
+-- all is written
+pub wrote-all : (was held : Option (List ℕ)) (whole : List ℕ) → Wrote was held [] whole → held ≡ after was whole
+wrote-all was held whole w = w.is ∙ ap (after was) (sym (append-nil w.written) ∙ w.all)
+
+-- what is written is a prefix
+pub wrote-prefix : (was held : Option (List ℕ)) (rest whole : List ℕ) → Wrote was held rest whole → AddsPrefix was held whole
+wrote-prefix was held rest whole w = record {
+  much = length w.written;
+  is = w.is ∙ ap (after was) (sym (ap (take (length w.written)) (sym w.all) ∙ take-append_seam w.written rest));
+}
+
+-- a part of the next piece is written
+pub wrote-part : (was held now : Option (List ℕ)) (piece rest whole : List ℕ) → Wrote was held (piece ++ rest) whole → AddsPrefix held now piece → AddsPrefix was now whole
+wrote-part was held now piece rest whole w part = record {
+  much = length w.written + min part.much (length piece);
+  is = after-more was held now w.written (take part.much piece) w.is part.is ∙ ap (after was) (sym (front ∙ ap (λ ys. w.written ++ ys) (inside piece rest part.much)));
+}
+  where
+    inside : (xs ys : List ℕ) (n : ℕ) → take (min n (length xs)) (xs ++ ys) ≡ take n xs
+    inside xs ys n = take-append-le (min n (length xs)) xs ys (omega arith) ∙ cut (split n (length xs))
+      where
+        split : (m n : ℕ) → (m ≤ n) ⊎ (n ≤ m)
+        split m n = grind arith
+
+        cut : (n ≤ length xs) ⊎ (length xs ≤ n) → take (min n (length xs)) xs ≡ take n xs
+        cut (inl h) = ap (λ k. take k xs) (small n (length xs) h)
+          where
+            small : (m n : ℕ) → m ≤ n → min m n ≡ m
+            small m n h = omega arith
+        cut (inr h) = take_all (min n (length xs)) xs (omega arith) ∙ sym (take_all n xs h)
+
+    front : take (length w.written + min part.much (length piece)) whole ≡ w.written ++ take (min part.much (length piece)) (piece ++ rest)
+    front = ap (take (length w.written + min part.much (length piece))) (sym w.all) ∙ take-append-add w.written (piece ++ rest) (min part.much (length piece))
+
+-- a part of the last piece is written
+pub wrote-last : (was held now : Option (List ℕ)) (piece whole : List ℕ) → Wrote was held piece whole → AddsPrefix held now piece → AddsPrefix was now whole
+wrote-last was held now piece whole w part =
+    let P : List ℕ → Type 0 = λ text. Wrote was held text whole in
+    wrote-part was held now piece [] whole (subst P (sym (append-nil piece)) w) part
+
+-- the texts of the items from one on are its text and those of the items behind it
+pub rest-more : {X : Type 0} (f : X → List ℕ) (xs : List X) (i : ℕ) (x d : X) → i < length xs → x ≡ slice_index_or xs i d → flat_map f (drop i xs) ≡ f x ++ flat_map f (drop (i + 1) xs)
+rest-more f xs i x d h e = ap (flat_map f) (drop_more xs i d h ∙ ap (λ y. y ∷ drop (i + 1) xs) (sym e))
+
+-- the text of the next item is written
+pub wrote-item : {X : Type 0} (f : X → List ℕ) (xs : List X) (i : ℕ) (x d : X) (was held now : Option (List ℕ)) (whole : List ℕ) → i < length xs → x ≡ slice_index_or xs i d → Wrote was held (flat_map f (drop i xs)) whole → now ≡ after held (f x) → Wrote was now (flat_map f (drop (i + 1) xs)) whole
+wrote-item f xs i x d was held now whole h e w n =
+    let P : List ℕ → Type 0 = λ rest. Wrote was held rest whole in
+    wrote-next was held now (f x) (flat_map f (drop (i + 1) xs)) whole (subst P (rest-more f xs i x d h e) w) n
+
+-- a part of the text of the next item is written
+pub wrote-in-item : {X : Type 0} (f : X → List ℕ) (xs : List X) (i : ℕ) (x d : X) (was held now : Option (List ℕ)) (whole : List ℕ) → i < length xs → x ≡ slice_index_or xs i d → Wrote was held (flat_map f (drop i xs)) whole → AddsPrefix held now (f x) → AddsPrefix was now whole
+wrote-in-item f xs i x d was held now whole h e w n =
+    let P : List ℕ → Type 0 = λ rest. Wrote was held rest whole in
+    wrote-part was held now (f x) (flat_map f (drop (i + 1) xs)) whole (subst P (rest-more f xs i x d h e) w) n
+
+-- the next line is written
+pub wrote-line : (was held now : Option (List ℕ)) (line piece : List ℕ) (lines rest : List (List ℕ)) (whole : List ℕ) → lines ≡ line ∷ rest → piece ≡ line → Wrote was held (concat lines) whole → now ≡ after held piece → Wrote was now (concat rest) whole
+wrote-line was held now line piece lines rest whole e s w n =
+    let P : List (List ℕ) → Type 0 = λ ls. Wrote was held (concat ls) whole in
+    wrote-next was held now line (concat rest) whole (subst P e w) (n ∙ ap (after held) s)
+
+-- a part of the next line is written
+pub wrote-in-line : (was held now : Option (List ℕ)) (line piece : List ℕ) (lines rest : List (List ℕ)) (whole : List ℕ) → lines ≡ line ∷ rest → piece ≡ line → Wrote was held (concat lines) whole → AddsPrefix held now piece → AddsPrefix was now whole
+wrote-in-line was held now line piece lines rest whole e s w part =
+    let P : List (List ℕ) → Type 0 = λ ls. Wrote was held (concat ls) whole in
+    let Q : List ℕ → Type 0 = λ text. AddsPrefix held now text in
+    wrote-part was held now line (concat rest) whole (subst P e w) (subst Q s part)
+
+-- the first of two texts is written, and of the second at least a part
+pub second-part : {T E : Type 0} (r : Result T E) (was held now : Option (List ℕ)) (first second given : List ℕ) → given ≡ second → held ≡ after was first → OnErr r (AddsPrefix held now given) → OnErr r (AddsPrefix was now (first ++ second))
+second-part (Ok x) was held now first second given s h part = tt
+second-part (Err e) was held now first second given s h part =
+    let Q : List ℕ → Type 0 = λ text. AddsPrefix held now text in
+    wrote-last was held now second (first ++ second) (wrote-next was was held first second (first ++ second) (wrote-none was (first ++ second)) h) (subst Q s part)
+
+pub on-err : {T E P : Type 0} (r : Result T E) → P → OnErr r P
+on-err (Ok x) p = tt
+on-err (Err e) p = p
