@@ -1,0 +1,13 @@
+//! Scripts read from their texts.
+#![tactic(auto)]
+
+pub mod calls;
+pub mod filters;
+pub mod stacks;
+pub mod whole;
+
+pub use crate::whole::read_script;
+pub use script_types::{
+    Call, CallKind, Calls, FilterSetup, FilterSetups, MiniportSetup, Script, ScriptCause,
+    ScriptFault, ScriptPlace, StackSetup, Stacks,
+};

@@ -1,0 +1,67 @@
+//! Reads scripts that differ in one number, at both ends of its range and one past each, and scripts
+//! with frames of several lengths, and prints what each reading answers.
+#![tactic(auto)]
+
+mod table;
+
+use crate::table::{LIMITS, Limit};
+use script_file::{ScriptCause, ScriptFault, read_script};
+use std::alloc::{AllocError, Global};
+
+fn name_of_answer(alloc: Global, text: &str) -> &'static str {
+    match read_script(alloc, text.as_bytes()) {
+        Ok(_) => "fine",
+        Err(ScriptFault::Memory) => "out of memory",
+        Err(ScriptFault::Bad { cause, .. }) => match cause {
+            ScriptCause::Range => "Range",
+            ScriptCause::FrameLength => "FrameLength",
+            ScriptCause::TooMany => "TooMany",
+            ScriptCause::BadLink => "BadLink",
+            _ => "another fault",
+        },
+    }
+}
+
+fn answer_at(
+    alloc: Global,
+    limit: &Limit,
+    number: i64,
+) -> std::result::Result<&'static str, AllocError> {
+    let before = limit.before;
+    let after = limit.after;
+    let text = format!(in alloc; "{before}{number}{after}")?;
+    Ok(name_of_answer(alloc, text.as_str()))
+}
+
+fn line_of(alloc: Global, limit: &Limit) -> std::result::Result<String, AllocError> {
+    let name = limit.name;
+    let below = answer_at(alloc, limit, limit.low.saturating_sub(1))?;
+    let low = answer_at(alloc, limit, limit.low)?;
+    let high = answer_at(alloc, limit, limit.high)?;
+    let above = answer_at(alloc, limit, limit.high.saturating_add(1))?;
+    format!(in alloc; "{name}: {below}, {low}, {high}, {above}")
+}
+
+// A script that sends one frame of so many bytes.
+fn frame_answer(alloc: Global, bytes: usize) -> std::result::Result<&'static str, AllocError> {
+    let mut digits = String::new(alloc);
+    for _ in 0..bytes {
+        digits.push_str("5a")?;
+    }
+    let before = table::SEND;
+    let text = format!(in alloc; "{before}\"cancel\":1,\"frames\":[\"{digits}\"]}}]}}")?;
+    Ok(name_of_answer(alloc, text.as_str()))
+}
+
+fn main(rt: HostRuntime) -> anyhow::Result<()> {
+    let alloc = rt.alloc();
+    for limit in &LIMITS {
+        let line = line_of(alloc, limit)?;
+        println!(rt; "{line}")?;
+    }
+    for bytes in [13usize, 14, 1518, 1519] {
+        let answer = frame_answer(alloc, bytes)?;
+        println!(rt; "frame of {bytes} bytes: {answer}")?;
+    }
+    Ok(())
+}
