@@ -16,17 +16,19 @@ ghost use Rattle.stack_rules.specs.Places.{is_crossed};
 ghost use Rattle.stack_rules.specs.Crosses.{take_of, take_outcome, links_from, lowest_mux, binding_of_link, mux_binding_for, grows_too_long, put_rows, put_outcome, is_in_message, done_of, done_outcome, take_up_of, take_up_outcome, put_up_outcome};
 
 use journal_types::{Frames, OutWay, Refusal, Reply, Row, StackHead, Way};
-use ndis_base::{CrossNo, Direction, Frame, ListNo, ListStatus, ModuleId, ModuleState, OutOfMemory};
+use ndis_base::{
+    CrossNo, Direction, Frame, ListNo, ListStatus, ModuleId, ModuleState, OutOfMemory,
+};
 use plain_moves::receives::indicated;
 use plain_net::PlainNet;
 use plain_parts::copies::copy_frames;
 use plain_parts::rows::{one_row, row_before, two_rows};
 use plain_parts::same::{is_mux, is_running_phase, is_virtual};
+use plain_places::PlainOutcome;
 use plain_places::lists::{binding_numbers, is_full, kept_lists};
-use plain_places::outcome::{answered, refused, root, MAX_FRAME};
+use plain_places::outcome::{MAX_FRAME, answered, refused, root};
 use plain_places::places::{is_crossed, position};
 use plain_places::targets::{homeward, onward};
-use plain_places::PlainOutcome;
 use plain_programs::bytes::pushed;
 use plain_state::messages::{is_for, kind_of_binding};
 use stack_rules::{LiveList, Message, Thing};
@@ -43,7 +45,12 @@ fn first_not_crossed(kept: &[LiveList]) -> Option<&LiveList>
     None
 }
 
-fn out_row(alloc: Global, message: u64, way: OutWay, frames: &Frames) -> Result<Vec<Row>, OutOfMemory>
+fn out_row(
+    alloc: Global,
+    message: u64,
+    way: OutWay,
+    frames: &Frames,
+) -> Result<Vec<Row>, OutOfMemory>
     ensures { IfOk result (λ rows. rows.items ≡ row.CrossOut (cross_no message) way frames.now ∷ []) }
 {
     one_row(
@@ -126,7 +133,11 @@ fn link_from(stack: u8, links: &[(u8, u32, u16)]) -> Option<&(u8, u32, u16)>
     None
 }
 
-fn binding_of_link(alloc: Global, head: &StackHead, link: Option<&(u8, u32, u16)>) -> Result<u32, OutOfMemory>
+fn binding_of_link(
+    alloc: Global,
+    head: &StackHead,
+    link: Option<&(u8, u32, u16)>,
+) -> Result<u32, OutOfMemory>
     ensures { IfOk result (λ b. b ≡ binding_of_link head.now (option_copied link.entry)) }
 {
     match link {
@@ -166,7 +177,13 @@ fn frames_pushed(alloc: Global, vlan: u16, frames: &[Frame]) -> Result<Vec<Frame
     }
 }
 
-fn in_row(alloc: Global, stack: u8, message: CrossNo, way: Way, frames: &Frames) -> Result<Row, OutOfMemory>
+fn in_row(
+    alloc: Global,
+    stack: u8,
+    message: CrossNo,
+    way: Way,
+    frames: &Frames,
+) -> Result<Row, OutOfMemory>
     ensures { IfOk result (λ made. made ≡ row.CrossIn stack message way frames.now) }
 {
     Ok(Row::CrossIn {
@@ -177,24 +194,60 @@ fn in_row(alloc: Global, stack: u8, message: CrossNo, way: Way, frames: &Frames)
     })
 }
 
-fn put_root(alloc: Global, net: &PlainNet, binding: u32, vlan: u16, frames: &Frames) -> Result<Row, OutOfMemory>
+fn put_root(
+    alloc: Global,
+    net: &PlainNet,
+    binding: u32,
+    vlan: u16,
+    frames: &Frames,
+) -> Result<Row, OutOfMemory>
     ensures { IfOk result (λ made. made ≡ root net.now net.now.next.list (Binding binding) direction.Down None (map (pushed vlan) frames.now)) }
 {
     let tagged = Frames::of(frames_pushed(alloc, vlan, frames.items())?);
-    root(alloc, net, net.next().list(), ModuleId::Binding(binding), Direction::Down, None, &tagged)
+    root(
+        alloc,
+        net,
+        net.next().list(),
+        ModuleId::Binding(binding),
+        Direction::Down,
+        None,
+        &tagged,
+    )
 }
 
-fn put_rows(alloc: Global, net: &PlainNet, binding: u32, stack: u8, message: CrossNo, vlan: u16, frames: &Frames) -> Result<Vec<Row>, OutOfMemory>
+fn put_rows(
+    alloc: Global,
+    net: &PlainNet,
+    binding: u32,
+    stack: u8,
+    message: CrossNo,
+    vlan: u16,
+    frames: &Frames,
+) -> Result<Vec<Row>, OutOfMemory>
     requires { binding ≡ mux_binding_for net.now.head stack }
     ensures { IfOk result (λ rows. rows.items ≡ put_rows net.now stack message vlan frames.now) }
 {
     let put = in_row(alloc, stack, message, Way::Down, frames)?;
     let issue = put_root(alloc, net, binding, vlan, frames)?;
-    let pass = onward(alloc, net.modules(), ListNo(net.next().list()), Direction::Down, 0)?;
+    let pass = onward(
+        alloc,
+        net.modules(),
+        ListNo(net.next().list()),
+        Direction::Down,
+        0,
+    )?;
     row_before(put, two_rows(alloc, issue, pass)?)
 }
 
-fn put_at(alloc: Global, net: &PlainNet, binding: u32, stack: u8, message: CrossNo, vlan: u16, frames: &Frames) -> Result<PlainOutcome, OutOfMemory>
+fn put_at(
+    alloc: Global,
+    net: &PlainNet,
+    binding: u32,
+    stack: u8,
+    message: CrossNo,
+    vlan: u16,
+    frames: &Frames,
+) -> Result<PlainOutcome, OutOfMemory>
     requires { binding ≡ mux_binding_for net.now.head stack }
     ensures { IfOk result (λ o. o ≡ put_outcome net.now stack message vlan frames.now) }
 {
@@ -217,7 +270,14 @@ fn put_at(alloc: Global, net: &PlainNet, binding: u32, stack: u8, message: Cross
 }
 
 /// A mux binding sends the frames of a message from above, tagged.
-pub fn put_outcome(alloc: Global, net: &PlainNet, stack: u8, message: CrossNo, vlan: u16, frames: &Frames) -> Result<PlainOutcome, OutOfMemory>
+pub fn put_outcome(
+    alloc: Global,
+    net: &PlainNet,
+    stack: u8,
+    message: CrossNo,
+    vlan: u16,
+    frames: &Frames,
+) -> Result<PlainOutcome, OutOfMemory>
     ensures { IfOk result (λ o. o ≡ put_outcome net.now stack message vlan frames.now) }
 {
     let binding = mux_binding_for(alloc, net.head(), stack)?;
@@ -246,7 +306,12 @@ fn list_in_message(n: u64, things: &[Thing]) -> Option<&LiveList>
     None
 }
 
-fn done_of(alloc: Global, net: &PlainNet, status: ListStatus, l: Option<&LiveList>) -> Result<PlainOutcome, OutOfMemory>
+fn done_of(
+    alloc: Global,
+    net: &PlainNet,
+    status: ListStatus,
+    l: Option<&LiveList>,
+) -> Result<PlainOutcome, OutOfMemory>
     ensures { IfOk result (λ o. o ≡ done_of net.now status (option_copied l.entry)) }
 {
     match l {
@@ -261,7 +326,12 @@ fn done_of(alloc: Global, net: &PlainNet, status: ListStatus, l: Option<&LiveLis
 }
 
 /// The list that was taken in a message is done.
-pub fn done_outcome(alloc: Global, net: &PlainNet, message: CrossNo, status: ListStatus) -> Result<PlainOutcome, OutOfMemory>
+pub fn done_outcome(
+    alloc: Global,
+    net: &PlainNet,
+    message: CrossNo,
+    status: ListStatus,
+) -> Result<PlainOutcome, OutOfMemory>
     ensures { IfOk result (λ o. o ≡ done_outcome net.now message status) }
 {
     done_of(alloc, net, status, list_in_message(message.0, net.things()))
@@ -278,7 +348,11 @@ fn oldest_for(binding: u32, vlan: u16, messages: &[Message]) -> Option<&Message>
     None
 }
 
-fn take_up_of(alloc: Global, net: &PlainNet, m: Option<&Message>) -> Result<PlainOutcome, OutOfMemory>
+fn take_up_of(
+    alloc: Global,
+    net: &PlainNet,
+    m: Option<&Message>,
+) -> Result<PlainOutcome, OutOfMemory>
     ensures { IfOk result (λ o. o ≡ take_up_of net.now (option_copied m.entry)) }
 {
     match m {
@@ -292,20 +366,40 @@ fn take_up_of(alloc: Global, net: &PlainNet, m: Option<&Message>) -> Result<Plai
 }
 
 /// The oldest message of a VLAN is taken.
-pub fn take_up_outcome(alloc: Global, net: &PlainNet, binding: u32, vlan: u16) -> Result<PlainOutcome, OutOfMemory>
+pub fn take_up_outcome(
+    alloc: Global,
+    net: &PlainNet,
+    binding: u32,
+    vlan: u16,
+) -> Result<PlainOutcome, OutOfMemory>
     ensures { IfOk result (λ o. o ≡ take_up_outcome net.now binding vlan) }
 {
     take_up_of(alloc, net, oldest_for(binding, vlan, net.messages()))
 }
 
-fn put_up_rows(alloc: Global, net: &PlainNet, stack: u8, message: CrossNo, frames: &Frames) -> Result<Vec<Row>, OutOfMemory>
+fn put_up_rows(
+    alloc: Global,
+    net: &PlainNet,
+    stack: u8,
+    message: CrossNo,
+    frames: &Frames,
+) -> Result<Vec<Row>, OutOfMemory>
     ensures { IfOk result (λ rows. rows.items ≡ row.CrossIn stack message crossing.Up frames.now ∷ indicated net.now frames.now) }
 {
-    row_before(in_row(alloc, stack, message, Way::Up, frames)?, indicated(alloc, net, frames)?)
+    row_before(
+        in_row(alloc, stack, message, Way::Up, frames)?,
+        indicated(alloc, net, frames)?,
+    )
 }
 
 /// A virtual miniport indicates the frames of a message from below.
-pub fn put_up_outcome(alloc: Global, net: &PlainNet, stack: u8, message: CrossNo, frames: &Frames) -> Result<PlainOutcome, OutOfMemory>
+pub fn put_up_outcome(
+    alloc: Global,
+    net: &PlainNet,
+    stack: u8,
+    message: CrossNo,
+    frames: &Frames,
+) -> Result<PlainOutcome, OutOfMemory>
     ensures { IfOk result (λ o. o ≡ put_up_outcome net.now stack message frames.now) }
 {
     if !matches!(net.modules().miniport(), ModuleState::Running) {

@@ -60,7 +60,11 @@ fn first_frame(frames: &Frames) -> &[u8]
 fn takes_at(net: &PlainNet, frames: &Frames, b: u32) -> bool
     ensures { result ≡ takes (slice_index net.now.port.delivers_by b) net.now.head.port.address (slice_index_or frames.now 0 []) }
 {
-    takes(filter_at(net.port().delivers_by(), b), &net.head().port.address, first_frame(frames))
+    takes(
+        filter_at(net.port().delivers_by(), b),
+        &net.head().port.address,
+        first_frame(frames),
+    )
 }
 
 /// The bindings that take a list, in rising order.
@@ -80,15 +84,34 @@ pub fn takers(alloc: Global, net: &PlainNet, frames: &Frames) -> Result<Vec<u32>
 fn echoes(net: &PlainNet, b: u32) -> bool
     ensures { result ≡ echoes net.now b }
 {
-    is_echo(kind_of_binding(net.head(), b)) && (is_running_phase(net.phase()) && !is_full(net, ModuleId::Binding(b)))
+    is_echo(kind_of_binding(net.head(), b))
+        && (is_running_phase(net.phase()) && !is_full(net, ModuleId::Binding(b)))
 }
 
 /// An echo protocol sends what is delivered to it.
-fn echoed(alloc: Global, net: &PlainNet, n: u64, b: u32, frames: &Frames) -> Result<Vec<Row>, OutOfMemory>
+fn echoed(
+    alloc: Global,
+    net: &PlainNet,
+    n: u64,
+    b: u32,
+    frames: &Frames,
+) -> Result<Vec<Row>, OutOfMemory>
     ensures { IfOk result (λ rows. rows.items ≡ echoed net.now n b frames.now) }
 {
-    let issue = root(alloc, net, n, ModuleId::Binding(b), Direction::Down, None, frames)?;
-    two_rows(alloc, issue, onward(alloc, net.modules(), ListNo(n), Direction::Down, 0)?)
+    let issue = root(
+        alloc,
+        net,
+        n,
+        ModuleId::Binding(b),
+        Direction::Down,
+        None,
+        frames,
+    )?;
+    two_rows(
+        alloc,
+        issue,
+        onward(alloc, net.modules(), ListNo(n), Direction::Down, 0)?,
+    )
 }
 
 fn how_for(own: How, others: &[u32]) -> How
@@ -100,7 +123,13 @@ fn how_for(own: How, others: &[u32]) -> How
     }
 }
 
-fn delivery_row(alloc: Global, list: ListNo, b: u32, how: How, frames: &Frames) -> Result<Row, OutOfMemory>
+fn delivery_row(
+    alloc: Global,
+    list: ListNo,
+    b: u32,
+    how: How,
+    frames: &Frames,
+) -> Result<Row, OutOfMemory>
     ensures { IfOk result (λ made. made ≡ row.Deliver list b how frames.now) }
 {
     Ok(Row::Deliver {
@@ -112,7 +141,15 @@ fn delivery_row(alloc: Global, list: ListNo, b: u32, how: How, frames: &Frames) 
 }
 
 /// The delivery rows, n being the number of the next list: own is how the last one gets it.
-pub fn delivered(alloc: Global, net: &PlainNet, list: ListNo, frames: &Frames, own: How, n: u64, bindings: &[u32]) -> Result<Vec<Row>, OutOfMemory>
+pub fn delivered(
+    alloc: Global,
+    net: &PlainNet,
+    list: ListNo,
+    frames: &Frames,
+    own: How,
+    n: u64,
+    bindings: &[u32],
+) -> Result<Vec<Row>, OutOfMemory>
     ensures { IfOk result (λ rows. rows.items ≡ delivered net.now list frames.now own n bindings.now) }
 {
     match bindings {
@@ -123,7 +160,10 @@ pub fn delivered(alloc: Global, net: &PlainNet, list: ListNo, frames: &Frames, o
                 let rest = delivered(alloc, net, list, frames, own, next_number(n)?, others)?;
                 row_before(deliver, rows_and(echoed(alloc, net, n, *b, frames)?, rest)?)
             } else {
-                row_before(deliver, delivered(alloc, net, list, frames, own, n, others)?)
+                row_before(
+                    deliver,
+                    delivered(alloc, net, list, frames, own, n, others)?,
+                )
             }
         }
     }
@@ -140,11 +180,20 @@ fn last_of(bindings: &[u32]) -> Option<u32>
 }
 
 /// The last one keeps it, which only a retain protocol may choose, or returns it at once.
-fn settled(alloc: Global, net: &PlainNet, l: &LiveList, keeps: bool, last: Option<u32>) -> Result<Vec<Row>, OutOfMemory>
+fn settled(
+    alloc: Global,
+    net: &PlainNet,
+    l: &LiveList,
+    keeps: bool,
+    last: Option<u32>,
+) -> Result<Vec<Row>, OutOfMemory>
     ensures { IfOk result (λ rows. rows.items ≡ settled net.now l.now keeps last) }
 {
     match last {
-        None => one_row(alloc, homeward(alloc, net.modules(), l, 0, ListStatus::Success)?),
+        None => one_row(
+            alloc,
+            homeward(alloc, net.modules(), l, 0, ListStatus::Success)?,
+        ),
         Some(b) => {
             if keeps && is_retain(kind_of_binding(net.head(), b)) {
                 one_row(
@@ -155,18 +204,37 @@ fn settled(alloc: Global, net: &PlainNet, l: &LiveList, keeps: bool, last: Optio
                     },
                 )
             } else {
-                one_row(alloc, homeward(alloc, net.modules(), l, 0, ListStatus::Success)?)
+                one_row(
+                    alloc,
+                    homeward(alloc, net.modules(), l, 0, ListStatus::Success)?,
+                )
             }
         }
     }
 }
 
 /// An owned list is delivered.
-pub fn delivery_rows(alloc: Global, net: &PlainNet, l: &LiveList, keeps: bool) -> Result<Vec<Row>, OutOfMemory>
+pub fn delivery_rows(
+    alloc: Global,
+    net: &PlainNet,
+    l: &LiveList,
+    keeps: bool,
+) -> Result<Vec<Row>, OutOfMemory>
     ensures { IfOk result (λ rows. rows.items ≡ delivery_rows net.now l.now keeps) }
 {
     let bindings = takers(alloc, net, &l.frames)?;
     let n = net.next().list();
-    let rows = delivered(alloc, net, l.list, &l.frames, How::Own, n, bindings.as_slice())?;
-    rows_and(rows, settled(alloc, net, l, keeps, last_of(bindings.as_slice()))?)
+    let rows = delivered(
+        alloc,
+        net,
+        l.list,
+        &l.frames,
+        How::Own,
+        n,
+        bindings.as_slice(),
+    )?;
+    rows_and(
+        rows,
+        settled(alloc, net, l, keeps, last_of(bindings.as_slice()))?,
+    )
 }

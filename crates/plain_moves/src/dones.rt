@@ -13,20 +13,35 @@ use plain_state::things::list_of;
 use stack_rules::LiveList;
 use std::alloc::Global;
 
-fn released_list(alloc: Global, net: &PlainNet, m: ModuleId, status: ListStatus, original: Option<&LiveList>) -> Result<Vec<Row>, OutOfMemory>
+fn released_list(
+    alloc: Global,
+    net: &PlainNet,
+    m: ModuleId,
+    status: ListStatus,
+    original: Option<&LiveList>,
+) -> Result<Vec<Row>, OutOfMemory>
     ensures { IfOk result (λ rows. rows.items ≡ released_list net.now m status (option_copied original.entry)) }
 {
     match original {
         None => Ok(no_rows(alloc)),
         Some(original) => {
             let ms = net.modules();
-            one_row(alloc, homeward(alloc, ms, original, position(ms.order(), m), status)?)
+            one_row(
+                alloc,
+                homeward(alloc, ms, original, position(ms.order(), m), status)?,
+            )
         }
     }
 }
 
 /// The original of a clone that is home goes homewards with the clone's status.
-fn released(alloc: Global, net: &PlainNet, m: ModuleId, origin: Origin, status: ListStatus) -> Result<Vec<Row>, OutOfMemory>
+fn released(
+    alloc: Global,
+    net: &PlainNet,
+    m: ModuleId,
+    origin: Origin,
+    status: ListStatus,
+) -> Result<Vec<Row>, OutOfMemory>
     ensures { IfOk result (λ rows. rows.items ≡ released net.now m origin status) }
 {
     match origin {
@@ -36,7 +51,12 @@ fn released(alloc: Global, net: &PlainNet, m: ModuleId, origin: Origin, status: 
     }
 }
 
-fn home_rows(alloc: Global, net: &PlainNet, l: &LiveList, status: ListStatus) -> Result<Vec<Row>, OutOfMemory>
+fn home_rows(
+    alloc: Global,
+    net: &PlainNet,
+    l: &LiveList,
+    status: ListStatus,
+) -> Result<Vec<Row>, OutOfMemory>
     ensures { IfOk result (λ rows. rows.items ≡ home_rows net.now l.now status) }
 {
     let home = Row::Home {
@@ -58,7 +78,13 @@ fn completed_by(d: Direction) -> Handler
 }
 
 /// A list on its way done or back is worked.
-pub fn homeward_rows(alloc: Global, net: &PlainNet, l: &LiveList, m: ModuleId, status: ListStatus) -> Result<Vec<Row>, OutOfMemory>
+pub fn homeward_rows(
+    alloc: Global,
+    net: &PlainNet,
+    l: &LiveList,
+    m: ModuleId,
+    status: ListStatus,
+) -> Result<Vec<Row>, OutOfMemory>
     ensures { IfOk result (λ rows. rows.items ≡ homeward_rows net.now l.now m status) }
 {
     if same_module(m, l.owner) {
@@ -70,6 +96,10 @@ pub fn homeward_rows(alloc: Global, net: &PlainNet, l: &LiveList, m: ModuleId, s
             module: m,
             handler: completed_by(l.direction),
         };
-        two_rows(alloc, give, homeward(alloc, ms, l, position(ms.order(), m), status)?)
+        two_rows(
+            alloc,
+            give,
+            homeward(alloc, ms, l, position(ms.order(), m), status)?,
+        )
     }
 }

@@ -33,13 +33,24 @@ fn program(setup: &Setup, d: Direction) -> &Program
 }
 
 /// What the filter makes of the list's frames.
-fn made_of(alloc: Global, net: &PlainNet, a: &Attached, l: &LiveList) -> Result<Option<Frames>, OutOfMemory>
+fn made_of(
+    alloc: Global,
+    net: &PlainNet,
+    a: &Attached,
+    l: &LiveList,
+) -> Result<Option<Frames>, OutOfMemory>
     ensures { IfOk result (λ made. made ≡ made_of net.now a.now l.now) }
 {
     applied(alloc, MAX_FRAME, program(&a.setup, l.direction), &l.frames)
 }
 
-fn clone_row(alloc: Global, net: &PlainNet, a: &Attached, l: &LiveList, frames: &Frames) -> Result<Row, OutOfMemory>
+fn clone_row(
+    alloc: Global,
+    net: &PlainNet,
+    a: &Attached,
+    l: &LiveList,
+    frames: &Frames,
+) -> Result<Row, OutOfMemory>
     ensures { IfOk result (λ made. made ≡ row.Issue (list_no net.now.next.list) (Filter a.now.filter) (config_no net.now.modules.config) l.now.direction l.now.cancel (origin.Clone l.now.list) frames.now) }
 {
     Ok(Row::Issue {
@@ -54,7 +65,13 @@ fn clone_row(alloc: Global, net: &PlainNet, a: &Attached, l: &LiveList, frames: 
 }
 
 /// A clone with changed frames goes on, and the original is kept.
-fn cloned(alloc: Global, net: &PlainNet, a: &Attached, l: &LiveList, frames: &Frames) -> Result<Vec<Row>, OutOfMemory>
+fn cloned(
+    alloc: Global,
+    net: &PlainNet,
+    a: &Attached,
+    l: &LiveList,
+    frames: &Frames,
+) -> Result<Vec<Row>, OutOfMemory>
     ensures { IfOk result (λ rows. rows.items ≡ cloned net.now a.now l.now frames.now) }
 {
     let f = ModuleId::Filter(a.filter);
@@ -64,12 +81,24 @@ fn cloned(alloc: Global, net: &PlainNet, a: &Attached, l: &LiveList, frames: &Fr
         list: l.list,
         module: f,
     };
-    let pass = onward(alloc, ms, ListNo(net.next().list()), l.direction, position(ms.order(), f))?;
+    let pass = onward(
+        alloc,
+        ms,
+        ListNo(net.next().list()),
+        l.direction,
+        position(ms.order(), f),
+    )?;
     row_before(issue, two_rows(alloc, keep, pass)?)
 }
 
 /// Frames that stay are passed on, or kept by a hold filter that so chooses.
-fn stays(alloc: Global, net: &PlainNet, a: &Attached, l: &LiveList, keeps: bool) -> Result<Vec<Row>, OutOfMemory>
+fn stays(
+    alloc: Global,
+    net: &PlainNet,
+    a: &Attached,
+    l: &LiveList,
+    keeps: bool,
+) -> Result<Vec<Row>, OutOfMemory>
     ensures { IfOk result (λ rows. rows.items ≡ stays net.now a.now l.now keeps) }
 {
     let f = ModuleId::Filter(a.filter);
@@ -83,11 +112,20 @@ fn stays(alloc: Global, net: &PlainNet, a: &Attached, l: &LiveList, keeps: bool)
             },
         )
     } else {
-        one_row(alloc, onward(alloc, ms, l.list, l.direction, position(ms.order(), f))?)
+        one_row(
+            alloc,
+            onward(alloc, ms, l.list, l.direction, position(ms.order(), f))?,
+        )
     }
 }
 
-fn changes(alloc: Global, net: &PlainNet, a: &Attached, l: &LiveList, frames: &Frames) -> Result<Vec<Row>, OutOfMemory>
+fn changes(
+    alloc: Global,
+    net: &PlainNet,
+    a: &Attached,
+    l: &LiveList,
+    frames: &Frames,
+) -> Result<Vec<Row>, OutOfMemory>
     ensures { IfOk result (λ rows. rows.items ≡ changes net.now a.now l.now frames.now) }
 {
     let f = ModuleId::Filter(a.filter);
@@ -98,7 +136,14 @@ fn changes(alloc: Global, net: &PlainNet, a: &Attached, l: &LiveList, frames: &F
     }
 }
 
-fn handled_as(alloc: Global, net: &PlainNet, a: &Attached, l: &LiveList, keeps: bool, made: Option<Frames>) -> Result<Vec<Row>, OutOfMemory>
+fn handled_as(
+    alloc: Global,
+    net: &PlainNet,
+    a: &Attached,
+    l: &LiveList,
+    keeps: bool,
+    made: Option<Frames>,
+) -> Result<Vec<Row>, OutOfMemory>
     ensures { IfOk result (λ rows. rows.items ≡ handled_as net.now a.now l.now keeps made) }
 {
     match made {
@@ -130,7 +175,13 @@ fn given_by(d: Direction) -> Handler
 }
 
 /// The rows of a list that a filter is given.
-pub fn filter_rows(alloc: Global, net: &PlainNet, a: &Attached, l: &LiveList, keeps: bool) -> Result<Vec<Row>, OutOfMemory>
+pub fn filter_rows(
+    alloc: Global,
+    net: &PlainNet,
+    a: &Attached,
+    l: &LiveList,
+    keeps: bool,
+) -> Result<Vec<Row>, OutOfMemory>
     ensures { IfOk result (λ rows. rows.items ≡ filter_rows net.now a.now l.now keeps) }
 {
     let give = Row::Give {
@@ -143,7 +194,13 @@ pub fn filter_rows(alloc: Global, net: &PlainNet, a: &Attached, l: &LiveList, ke
 }
 
 /// The same, where there is a filter.
-pub fn at_filter(alloc: Global, net: &PlainNet, a: Option<&Attached>, l: &LiveList, keeps: bool) -> Result<Vec<Row>, OutOfMemory>
+pub fn at_filter(
+    alloc: Global,
+    net: &PlainNet,
+    a: Option<&Attached>,
+    l: &LiveList,
+    keeps: bool,
+) -> Result<Vec<Row>, OutOfMemory>
     ensures { IfOk result (λ rows. rows.items ≡ at_filter net.now (option_copied a.entry) l.now keeps) }
 {
     match a {

@@ -14,23 +14,31 @@ ghost use Rattle.stack_rules.specs.Targets.{has_receive};
 use crate::deliveries::{delivered, delivery_rows, takers};
 use crate::handled::filter_rows;
 use journal_types::{Frames, Handler, How, Refusal, Reply, Row, Target};
-use ndis_base::{ConfigNo, Direction, ListNo, ListStatus, ModuleId, ModuleState, Origin, OutOfMemory};
+use ndis_base::{
+    ConfigNo, Direction, ListNo, ListStatus, ModuleId, ModuleState, Origin, OutOfMemory,
+};
 use plain_net::PlainNet;
 use plain_parts::copies::copy_frames;
 use plain_parts::rows::{next_number, no_rows, one_row, row_before, rows_and, two_rows};
 use plain_parts::same::{is_running_phase, same_frames};
+use plain_places::PlainOutcome;
 use plain_places::lists::is_full;
-use plain_places::outcome::{refused, root, MAX_FRAME};
+use plain_places::outcome::{MAX_FRAME, refused, root};
 use plain_places::places::{is_kept_by, position};
 use plain_places::targets::{homeward, onward, reversed, turned_back};
-use plain_places::PlainOutcome;
 use plain_programs::rules::applied;
 use plain_state::things::list_of;
 use stack_rules::{Attached, LiveList};
 use std::alloc::Global;
 
 /// A module that isn't Running turns a receive back.
-fn up_at_filter(alloc: Global, net: &PlainNet, a: Option<&Attached>, l: &LiveList, keeps: bool) -> Result<Vec<Row>, OutOfMemory>
+fn up_at_filter(
+    alloc: Global,
+    net: &PlainNet,
+    a: Option<&Attached>,
+    l: &LiveList,
+    keeps: bool,
+) -> Result<Vec<Row>, OutOfMemory>
     ensures { IfOk result (λ rows. rows.items ≡ up_at_filter net.now (option_copied a.entry) l.now keeps) }
 {
     match a {
@@ -39,24 +47,47 @@ fn up_at_filter(alloc: Global, net: &PlainNet, a: Option<&Attached>, l: &LiveLis
             if matches!(a.state, ModuleState::Running) {
                 filter_rows(alloc, net, a, l, keeps)
             } else {
-                turned_back(alloc, net.modules(), l, ModuleId::Filter(a.filter), ListStatus::Paused)
+                turned_back(
+                    alloc,
+                    net.modules(),
+                    l,
+                    ModuleId::Filter(a.filter),
+                    ListStatus::Paused,
+                )
             }
         }
     }
 }
 
-fn up_at_bindings(alloc: Global, net: &PlainNet, l: &LiveList, keeps: bool) -> Result<Vec<Row>, OutOfMemory>
+fn up_at_bindings(
+    alloc: Global,
+    net: &PlainNet,
+    l: &LiveList,
+    keeps: bool,
+) -> Result<Vec<Row>, OutOfMemory>
     ensures { IfOk result (λ rows. rows.items ≡ up_rows net.now l.now target.Bindings keeps) }
 {
     if is_running_phase(net.phase()) {
         delivery_rows(alloc, net, l, keeps)
     } else {
-        turned_back(alloc, net.modules(), l, ModuleId::Binding(0), ListStatus::Paused)
+        turned_back(
+            alloc,
+            net.modules(),
+            l,
+            ModuleId::Binding(0),
+            ListStatus::Paused,
+        )
     }
 }
 
 /// A list on its way up is worked; at the bindings the first one stands for all.
-pub fn up_rows(alloc: Global, net: &PlainNet, l: &LiveList, to: Target, keeps: bool) -> Result<Vec<Row>, OutOfMemory>
+pub fn up_rows(
+    alloc: Global,
+    net: &PlainNet,
+    l: &LiveList,
+    to: Target,
+    keeps: bool,
+) -> Result<Vec<Row>, OutOfMemory>
     ensures { IfOk result (λ rows. rows.items ≡ up_rows net.now l.now to keeps) }
 {
     match to {
@@ -75,12 +106,28 @@ pub fn indicated(alloc: Global, net: &PlainNet, frames: &Frames) -> Result<Vec<R
 {
     let n = net.next().list();
     let ms = net.modules();
-    let issue = root(alloc, net, n, ModuleId::Miniport, Direction::Up, None, frames)?;
+    let issue = root(
+        alloc,
+        net,
+        n,
+        ModuleId::Miniport,
+        Direction::Up,
+        None,
+        frames,
+    )?;
     let at = position(ms.order(), ModuleId::Miniport);
-    two_rows(alloc, issue, onward(alloc, ms, ListNo(n), Direction::Up, at)?)
+    two_rows(
+        alloc,
+        issue,
+        onward(alloc, ms, ListNo(n), Direction::Up, at)?,
+    )
 }
 
-pub fn indicate_outcome(alloc: Global, net: &PlainNet, frames: &Frames) -> Result<PlainOutcome, OutOfMemory>
+pub fn indicate_outcome(
+    alloc: Global,
+    net: &PlainNet,
+    frames: &Frames,
+) -> Result<PlainOutcome, OutOfMemory>
     ensures { IfOk result (λ o. o ≡ indicate_outcome net.now frames.now) }
 {
     if !matches!(net.modules().miniport(), ModuleState::Running) {
@@ -112,7 +159,12 @@ fn lent_home(alloc: Global, list: ListNo, status: ListStatus) -> Result<Vec<Row>
     )
 }
 
-fn lent_back(alloc: Global, list: ListNo, m: ModuleId, status: ListStatus) -> Result<Vec<Row>, OutOfMemory>
+fn lent_back(
+    alloc: Global,
+    list: ListNo,
+    m: ModuleId,
+    status: ListStatus,
+) -> Result<Vec<Row>, OutOfMemory>
     ensures { IfOk result (λ rows. rows.items ≡ lent_back list m status) }
 {
     let turned = Row::TurnBack {
@@ -123,7 +175,14 @@ fn lent_back(alloc: Global, list: ListNo, m: ModuleId, status: ListStatus) -> Re
     row_before(turned, lent_home(alloc, list, status)?)
 }
 
-fn copy_row(alloc: Global, net: &PlainNet, a: &Attached, list: ListNo, copy: u64, frames: &Frames) -> Result<Row, OutOfMemory>
+fn copy_row(
+    alloc: Global,
+    net: &PlainNet,
+    a: &Attached,
+    list: ListNo,
+    copy: u64,
+    frames: &Frames,
+) -> Result<Row, OutOfMemory>
     ensures { IfOk result (λ made. made ≡ row.Issue (list_no copy) (Filter a.now.filter) (config_no net.now.modules.config) direction.Up None (origin.Copy list) frames.now) }
 {
     Ok(Row::Issue {
@@ -138,7 +197,13 @@ fn copy_row(alloc: Global, net: &PlainNet, a: &Attached, list: ListNo, copy: u64
 }
 
 /// A filter that changes a lent list sends a copy in its place.
-fn copied(alloc: Global, net: &PlainNet, a: &Attached, list: ListNo, frames: &Frames) -> Result<Vec<Row>, OutOfMemory>
+fn copied(
+    alloc: Global,
+    net: &PlainNet,
+    a: &Attached,
+    list: ListNo,
+    frames: &Frames,
+) -> Result<Vec<Row>, OutOfMemory>
     ensures { IfOk result (λ rows. rows.items ≡ copied net.now a.now list frames.now) }
 {
     let copy = next_number(net.next().list())?;
@@ -150,7 +215,13 @@ fn copied(alloc: Global, net: &PlainNet, a: &Attached, list: ListNo, frames: &Fr
     row_before(issue, row_before(pass, home)?)
 }
 
-fn lent_changes(alloc: Global, net: &PlainNet, a: &Attached, list: ListNo, frames: &Frames) -> Result<Vec<Row>, OutOfMemory>
+fn lent_changes(
+    alloc: Global,
+    net: &PlainNet,
+    a: &Attached,
+    list: ListNo,
+    frames: &Frames,
+) -> Result<Vec<Row>, OutOfMemory>
     ensures { IfOk result (λ rows. rows.items ≡ lent_changes net.now a.now list frames.now) }
 {
     let f = ModuleId::Filter(a.filter);
@@ -162,7 +233,15 @@ fn lent_changes(alloc: Global, net: &PlainNet, a: &Attached, list: ListNo, frame
 }
 
 /// At a filter: further is what happens further up.
-fn lent_handled(alloc: Global, net: &PlainNet, a: &Attached, list: ListNo, frames: &Frames, further: Vec<Row>, made: Option<Frames>) -> Result<Vec<Row>, OutOfMemory>
+fn lent_handled(
+    alloc: Global,
+    net: &PlainNet,
+    a: &Attached,
+    list: ListNo,
+    frames: &Frames,
+    further: Vec<Row>,
+    made: Option<Frames>,
+) -> Result<Vec<Row>, OutOfMemory>
     ensures { IfOk result (λ rows. rows.items ≡ lent_handled net.now a.now list frames.now further.items made) }
 {
     match made {
@@ -177,7 +256,14 @@ fn lent_handled(alloc: Global, net: &PlainNet, a: &Attached, list: ListNo, frame
     }
 }
 
-fn lent_at(alloc: Global, net: &PlainNet, a: Option<&Attached>, list: ListNo, frames: &Frames, further: Vec<Row>) -> Result<Vec<Row>, OutOfMemory>
+fn lent_at(
+    alloc: Global,
+    net: &PlainNet,
+    a: Option<&Attached>,
+    list: ListNo,
+    frames: &Frames,
+    further: Vec<Row>,
+) -> Result<Vec<Row>, OutOfMemory>
     ensures { IfOk result (λ rows. rows.items ≡ lent_at net.now (option_copied a.entry) list frames.now further.items) }
 {
     match a {
@@ -192,7 +278,14 @@ fn lent_at(alloc: Global, net: &PlainNet, a: Option<&Attached>, list: ListNo, fr
     }
 }
 
-fn lent_given(alloc: Global, net: &PlainNet, a: &Attached, list: ListNo, frames: &Frames, further: Vec<Row>) -> Result<Vec<Row>, OutOfMemory>
+fn lent_given(
+    alloc: Global,
+    net: &PlainNet,
+    a: &Attached,
+    list: ListNo,
+    frames: &Frames,
+    further: Vec<Row>,
+) -> Result<Vec<Row>, OutOfMemory>
     ensures { IfOk result (λ rows. rows.items ≡ row.Give list (Filter a.now.filter) handler.ReceiveLent ∷ lent_handled net.now a.now list frames.now further.items (applied 1518 a.now.setup.receive frames.now)) }
 {
     let give = Row::Give {
@@ -201,10 +294,18 @@ fn lent_given(alloc: Global, net: &PlainNet, a: &Attached, list: ListNo, frames:
         handler: Handler::ReceiveLent,
     };
     let made = applied(alloc, MAX_FRAME, &a.setup.receive, frames)?;
-    row_before(give, lent_handled(alloc, net, a, list, frames, further, made)?)
+    row_before(
+        give,
+        lent_handled(alloc, net, a, list, frames, further, made)?,
+    )
 }
 
-fn lent_delivery(alloc: Global, net: &PlainNet, list: ListNo, frames: &Frames) -> Result<Vec<Row>, OutOfMemory>
+fn lent_delivery(
+    alloc: Global,
+    net: &PlainNet,
+    list: ListNo,
+    frames: &Frames,
+) -> Result<Vec<Row>, OutOfMemory>
     ensures { IfOk result (λ rows. rows.items ≡ lent_delivery net.now list frames.now) }
 {
     if is_running_phase(net.phase()) {
@@ -218,14 +319,27 @@ fn lent_delivery(alloc: Global, net: &PlainNet, list: ListNo, frames: &Frames) -
 }
 
 /// The lent list goes up through these filters, the nearest first, to the bindings.
-fn lent_up(alloc: Global, net: &PlainNet, list: ListNo, frames: &Frames, filters: &[u64]) -> Result<Vec<Row>, OutOfMemory>
+fn lent_up(
+    alloc: Global,
+    net: &PlainNet,
+    list: ListNo,
+    frames: &Frames,
+    filters: &[u64],
+) -> Result<Vec<Row>, OutOfMemory>
     ensures { IfOk result (λ rows. rows.items ≡ lent_up net.now list frames.now filters.now) }
 {
     match filters {
         [] => lent_delivery(alloc, net, list, frames),
         [f, others @ ..] => {
             let further = lent_up(alloc, net, list, frames, others)?;
-            lent_at(alloc, net, net.modules().attached(*f), list, frames, further)
+            lent_at(
+                alloc,
+                net,
+                net.modules().attached(*f),
+                list,
+                frames,
+                further,
+            )
         }
     }
 }
@@ -247,12 +361,27 @@ fn lent_rows(alloc: Global, net: &PlainNet, frames: &Frames) -> Result<Vec<Row>,
     ensures { IfOk result (λ rows. rows.items ≡ lent_rows net.now frames.now) }
 {
     let n = net.next().list();
-    let issue = root(alloc, net, n, ModuleId::Miniport, Direction::Lent, None, frames)?;
+    let issue = root(
+        alloc,
+        net,
+        n,
+        ModuleId::Miniport,
+        Direction::Lent,
+        None,
+        frames,
+    )?;
     let filters = receiving_from_below(alloc, net)?;
-    row_before(issue, lent_up(alloc, net, ListNo(n), frames, filters.as_slice())?)
+    row_before(
+        issue,
+        lent_up(alloc, net, ListNo(n), frames, filters.as_slice())?,
+    )
 }
 
-pub fn lend_outcome(alloc: Global, net: &PlainNet, frames: &Frames) -> Result<PlainOutcome, OutOfMemory>
+pub fn lend_outcome(
+    alloc: Global,
+    net: &PlainNet,
+    frames: &Frames,
+) -> Result<PlainOutcome, OutOfMemory>
     ensures { IfOk result (λ o. o ≡ lend_outcome net.now frames.now) }
 {
     if !matches!(net.modules().miniport(), ModuleState::Running) {
@@ -270,14 +399,22 @@ pub fn lend_outcome(alloc: Global, net: &PlainNet, frames: &Frames) -> Result<Pl
     ))
 }
 
-fn give_back_of(alloc: Global, net: &PlainNet, binding: u32, l: Option<&LiveList>) -> Result<PlainOutcome, OutOfMemory>
+fn give_back_of(
+    alloc: Global,
+    net: &PlainNet,
+    binding: u32,
+    l: Option<&LiveList>,
+) -> Result<PlainOutcome, OutOfMemory>
     ensures { IfOk result (λ o. o ≡ give_back_of net.now binding (option_copied l.entry)) }
 {
     match l {
         None => Ok(refused(alloc, Refusal::NotHeld)),
         Some(l) => {
             if is_kept_by(ModuleId::Binding(binding), l.stand) {
-                let rows = one_row(alloc, homeward(alloc, net.modules(), l, 0, ListStatus::Success)?)?;
+                let rows = one_row(
+                    alloc,
+                    homeward(alloc, net.modules(), l, 0, ListStatus::Success)?,
+                )?;
                 Ok(PlainOutcome::of(Reply::Ok, rows))
             } else {
                 Ok(refused(alloc, Refusal::NotHeld))
@@ -287,7 +424,12 @@ fn give_back_of(alloc: Global, net: &PlainNet, binding: u32, l: Option<&LiveList
 }
 
 /// A binding returns a list that it keeps.
-pub fn give_back_outcome(alloc: Global, net: &PlainNet, binding: u32, list: ListNo) -> Result<PlainOutcome, OutOfMemory>
+pub fn give_back_outcome(
+    alloc: Global,
+    net: &PlainNet,
+    binding: u32,
+    list: ListNo,
+) -> Result<PlainOutcome, OutOfMemory>
     ensures { IfOk result (λ o. o ≡ give_back_outcome net.now binding list) }
 {
     give_back_of(alloc, net, binding, list_of(list.0, net.things()))

@@ -10,24 +10,48 @@ use plain_net::PlainNet;
 use plain_parts::copies::copy_frames;
 use plain_parts::rows::{no_rows, one_row, row_before, rows_and, two_rows};
 use plain_parts::same::{is_loop, is_running_phase, is_virtual};
+use plain_places::PlainOutcome;
 use plain_places::lists::{is_full, kept_lists};
 use plain_places::outcome::{answered, refused, root};
 use plain_places::places::position;
 use plain_places::targets::{homeward, onward, turned_back};
-use plain_places::PlainOutcome;
 use stack_rules::LiveList;
 use std::alloc::Global;
 
 /// A binding's list, on its way down.
-fn sent(alloc: Global, net: &PlainNet, binding: u32, cancel: Option<u32>, frames: &Frames) -> Result<Vec<Row>, OutOfMemory>
+fn sent(
+    alloc: Global,
+    net: &PlainNet,
+    binding: u32,
+    cancel: Option<u32>,
+    frames: &Frames,
+) -> Result<Vec<Row>, OutOfMemory>
     ensures { IfOk result (λ rows. rows.items ≡ sent net.now binding cancel frames.now) }
 {
     let n = net.next().list();
-    let issue = root(alloc, net, n, ModuleId::Binding(binding), Direction::Down, cancel, frames)?;
-    two_rows(alloc, issue, onward(alloc, net.modules(), ListNo(n), Direction::Down, 0)?)
+    let issue = root(
+        alloc,
+        net,
+        n,
+        ModuleId::Binding(binding),
+        Direction::Down,
+        cancel,
+        frames,
+    )?;
+    two_rows(
+        alloc,
+        issue,
+        onward(alloc, net.modules(), ListNo(n), Direction::Down, 0)?,
+    )
 }
 
-pub fn send_outcome(alloc: Global, net: &PlainNet, binding: u32, cancel: Option<u32>, frames: &Frames) -> Result<PlainOutcome, OutOfMemory>
+pub fn send_outcome(
+    alloc: Global,
+    net: &PlainNet,
+    binding: u32,
+    cancel: Option<u32>,
+    frames: &Frames,
+) -> Result<PlainOutcome, OutOfMemory>
     ensures { IfOk result (λ o. o ≡ send_outcome net.now binding cancel frames.now) }
 {
     if !is_running_phase(net.phase()) {
@@ -65,7 +89,13 @@ fn miniport_rows(alloc: Global, net: &PlainNet, l: &LiveList) -> Result<Vec<Row>
     if ring_is_full(alloc, net)? {
         row_before(
             give,
-            turned_back(alloc, net.modules(), l, ModuleId::Miniport, ListStatus::Resources)?,
+            turned_back(
+                alloc,
+                net.modules(),
+                l,
+                ModuleId::Miniport,
+                ListStatus::Resources,
+            )?,
         )
     } else {
         two_rows(
@@ -80,7 +110,13 @@ fn miniport_rows(alloc: Global, net: &PlainNet, l: &LiveList) -> Result<Vec<Row>
 }
 
 /// A list on its way down is worked.
-pub fn down_rows(alloc: Global, net: &PlainNet, l: &LiveList, m: ModuleId, keeps: bool) -> Result<Vec<Row>, OutOfMemory>
+pub fn down_rows(
+    alloc: Global,
+    net: &PlainNet,
+    l: &LiveList,
+    m: ModuleId,
+    keeps: bool,
+) -> Result<Vec<Row>, OutOfMemory>
     ensures { IfOk result (λ rows. rows.items ≡ down_rows net.now l.now m keeps) }
 {
     match m {
@@ -103,9 +139,21 @@ fn looped(alloc: Global, net: &PlainNet, l: &LiveList) -> Result<Vec<Row>, OutOf
     if loops(net) {
         let n = net.next().list();
         let ms = net.modules();
-        let issue = root(alloc, net, n, ModuleId::Miniport, Direction::Up, None, &l.frames)?;
+        let issue = root(
+            alloc,
+            net,
+            n,
+            ModuleId::Miniport,
+            Direction::Up,
+            None,
+            &l.frames,
+        )?;
         let at = position(ms.order(), ModuleId::Miniport);
-        two_rows(alloc, issue, onward(alloc, ms, ListNo(n), Direction::Up, at)?)
+        two_rows(
+            alloc,
+            issue,
+            onward(alloc, ms, ListNo(n), Direction::Up, at)?,
+        )
     } else {
         Ok(no_rows(alloc))
     }
@@ -141,7 +189,11 @@ pub fn first_of(lists: &[LiveList]) -> Option<&LiveList>
     }
 }
 
-fn transmit_of(alloc: Global, net: &PlainNet, l: Option<&LiveList>) -> Result<PlainOutcome, OutOfMemory>
+fn transmit_of(
+    alloc: Global,
+    net: &PlainNet,
+    l: Option<&LiveList>,
+) -> Result<PlainOutcome, OutOfMemory>
     ensures { IfOk result (λ o. o ≡ transmit_of net.now (option_copied l.entry)) }
 {
     match l {

@@ -5,18 +5,22 @@ ghost use Rattle.journal_types.specs.declared.PhaseOf.TheVariants as of;
 ghost use Rattle.stack_rules.specs.Outcome.{list_no, config_no};
 ghost use Rattle.stack_rules.specs.Net.{start, after, changed, had_by, told, with_filter, without, without_status, messages_after, things_done, port_done, things_out, port_out, port_after, request_of};
 
-use journal_types::{Event, FilterList, Frames, OutWay, PassWay, PhaseOf, Reply, Row, Setup, StackHead, Target};
+use journal_types::{
+    Event, FilterList, Frames, OutWay, PassWay, PhaseOf, Reply, Row, Setup, StackHead, Target,
+};
 use ndis_base::{
-    ConfigNo, CrossNo, Direction, FilterKind, ListNo, ModuleId, ModuleState, OidKind, OidNo, OidStatus,
-    OidValue, Origin, OutOfMemory, Phase, StatusName, StatusNo,
+    ConfigNo, CrossNo, Direction, FilterKind, ListNo, ModuleId, ModuleState, OidKind, OidNo,
+    OidStatus, OidValue, Origin, OutOfMemory, Phase, StatusName, StatusNo,
 };
 use plain_parts::copies::{copy_frames, copy_head, copy_numbers, copy_request, copy_setup};
-use plain_state::counters::{first_counters, PlainCounters};
+use plain_state::counters::{PlainCounters, first_counters};
 use plain_state::messages::{messages_after, without_oldest};
-use plain_state::modules::{first_modules, PlainModules};
-use plain_state::port::{first_port, PlainPort};
+use plain_state::modules::{PlainModules, first_modules};
+use plain_state::port::{PlainPort, first_port};
 use plain_state::requests::{place_of_request, request_of, requests_given, without_request};
-use plain_state::things::{kept, passed, things_done, things_had_by, things_taken_by, without, without_status};
+use plain_state::things::{
+    kept, passed, things_done, things_had_by, things_taken_by, without, without_status,
+};
 use stack_rules::{Attached, LiveList, Message, Request, Stand, StatusAway, Thing};
 use std::alloc::Global;
 use std::marker::Model;
@@ -119,7 +123,15 @@ impl PlainNet {
     }
 
     // The state doesn't depend on the row's configuration.
-    fn note_issue(&mut self, list: ListNo, owner: ModuleId, direction: Direction, cancel: Option<u32>, origin: Origin, frames: &Frames) -> Result<(), OutOfMemory>
+    fn note_issue(
+        &mut self,
+        list: ListNo,
+        owner: ModuleId,
+        direction: Direction,
+        cancel: Option<u32>,
+        origin: Origin,
+        frames: &Frames,
+    ) -> Result<(), OutOfMemory>
         ensures { OnOk result (self.new ≡ after self.old (row.Issue list owner (config_no 0) direction cancel origin frames.now)) }
     {
         let copy = copy_frames(self.alloc, frames)?;
@@ -190,7 +202,9 @@ impl PlainNet {
     fn note_first_port(&mut self, m: ModuleId) -> Result<(), OutOfMemory>
         ensures { OnOk result (self.new ≡ record self.old { port = port_after self.old m }) }
     {
-        if matches!(m, ModuleId::Miniport) && matches!(self.modules.miniport(), ModuleState::Halted) {
+        if matches!(m, ModuleId::Miniport)
+            && matches!(self.modules.miniport(), ModuleState::Halted)
+        {
             self.port = first_port(self.alloc, self.head.bindings.items().len())?;
         }
         Ok(())
@@ -221,7 +235,15 @@ impl PlainNet {
         Ok(())
     }
 
-    fn note_oid_issue(&mut self, request: OidNo, parent: Option<OidNo>, binding: u32, kind: OidKind, code: u32, value: &OidValue) -> Result<(), OutOfMemory>
+    fn note_oid_issue(
+        &mut self,
+        request: OidNo,
+        parent: Option<OidNo>,
+        binding: u32,
+        kind: OidKind,
+        code: u32,
+        value: &OidValue,
+    ) -> Result<(), OutOfMemory>
         ensures { OnOk result (self.new ≡ after self.old (row.OidIssue request parent binding kind code value.now)) }
     {
         let at = place_of_request(&self.modules, self.requests.as_slice(), parent);
@@ -262,7 +284,13 @@ impl PlainNet {
         Ok(())
     }
 
-    fn complete(&mut self, r: &Request, request: OidNo, status: OidStatus, value: &OidValue) -> Result<(), OutOfMemory>
+    fn complete(
+        &mut self,
+        r: &Request,
+        request: OidNo,
+        status: OidStatus,
+        value: &OidValue,
+    ) -> Result<(), OutOfMemory>
         ensures { OnOk result (self.new ≡ record self.old { things = things_done (Some r.now) request status value.now self.old.things; port = port_done (Some r.now) status self.old.port }) }
     {
         let things = self.take_things();
@@ -271,7 +299,12 @@ impl PlainNet {
         Ok(())
     }
 
-    fn note_oid_done(&mut self, request: OidNo, status: OidStatus, value: &OidValue) -> Result<(), OutOfMemory>
+    fn note_oid_done(
+        &mut self,
+        request: OidNo,
+        status: OidStatus,
+        value: &OidValue,
+    ) -> Result<(), OutOfMemory>
         ensures { OnOk result (self.new ≡ after self.old (row.OidDone request status value.now)) }
     {
         match self.copy_of_request(request) {
@@ -283,11 +316,17 @@ impl PlainNet {
         }
     }
 
-    fn note_status(&mut self, number: StatusNo, name: StatusName, to: Target) -> Result<(), OutOfMemory>
+    fn note_status(
+        &mut self,
+        number: StatusNo,
+        name: StatusName,
+        to: Target,
+    ) -> Result<(), OutOfMemory>
         ensures { OnOk result (self.new ≡ after self.old (row.Status number name to)) }
     {
         self.note_seen(number)?;
-        self.things.push(Thing::Status(StatusAway { number, name, to }))?;
+        self.things
+            .push(Thing::Status(StatusAway { number, name, to }))?;
         self.next.count_status(number.0)
     }
 
@@ -312,7 +351,12 @@ impl PlainNet {
         }
     }
 
-    fn note_cross_out(&mut self, message: CrossNo, way: OutWay, frames: &Frames) -> Result<(), OutOfMemory>
+    fn note_cross_out(
+        &mut self,
+        message: CrossNo,
+        way: OutWay,
+        frames: &Frames,
+    ) -> Result<(), OutOfMemory>
         ensures { OnOk result (self.new ≡ after self.old (row.CrossOut message way frames.now)) }
     {
         self.note_out(message, way, frames.items().len())?;
@@ -340,7 +384,11 @@ impl PlainNet {
             Row::TurnBack { list, module, .. } => self.note_give(*list, *module),
             Row::Home { list, .. } => self.note_home(*list),
             Row::Wire { frames, .. } => self.note_wire(frames),
-            Row::Deliver { binding, frames, .. } => self.note_deliver(*binding, frames),
+            Row::Deliver {
+                binding,
+                frames,
+                ..
+            } => self.note_deliver(*binding, frames),
             Row::Phase { of } => match *of {
                 PhaseOf::Module(m, s) => self.note_state(m, s),
                 PhaseOf::Stack(p) => {

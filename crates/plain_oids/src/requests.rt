@@ -12,10 +12,10 @@ use plain_net::PlainNet;
 use plain_parts::copies::copy_request;
 use plain_parts::rows::{no_rows, one_row, row_before};
 use plain_parts::same::same_module;
+use plain_places::PlainOutcome;
 use plain_places::lists::state_of;
 use plain_places::outcome::refused;
 use plain_places::targets::reversed;
-use plain_places::PlainOutcome;
 use plain_state::PlainModules;
 use stack_rules::{Request, RequestAt};
 use std::alloc::Global;
@@ -207,7 +207,12 @@ fn report_row(net: &PlainNet, r: &Request) -> Row
 }
 
 /// A filter forwards the request by a clone, the miniport answers it.
-fn given_rows_by(alloc: Global, net: &PlainNet, r: &Request, m: ModuleId) -> Result<Vec<Row>, OutOfMemory>
+fn given_rows_by(
+    alloc: Global,
+    net: &PlainNet,
+    r: &Request,
+    m: ModuleId,
+) -> Result<Vec<Row>, OutOfMemory>
     ensures { IfOk result (λ rows. rows.items ≡ given_rows_by net.now r.now m) }
 {
     match m {
@@ -238,7 +243,12 @@ pub fn giving_rows(alloc: Global, net: &PlainNet, g: &PlainGiving) -> Result<Vec
 }
 
 /// An answered clone at its filter: the original is done with the clone's answer.
-pub fn answer_rows(alloc: Global, parent: OidNo, status: OidStatus, value: &OidValue) -> Result<Vec<Row>, OutOfMemory>
+pub fn answer_rows(
+    alloc: Global,
+    parent: OidNo,
+    status: OidStatus,
+    value: &OidValue,
+) -> Result<Vec<Row>, OutOfMemory>
     ensures { IfOk result (λ rows. rows.items ≡ answer_rows parent status value.now) }
 {
     one_row(
@@ -251,10 +261,20 @@ pub fn answer_rows(alloc: Global, parent: OidNo, status: OidStatus, value: &OidV
     )
 }
 
-pub fn ask_outcome(alloc: Global, net: &PlainNet, binding: u32, kind: OidKind, code: u32, value: &OidValue) -> Result<PlainOutcome, OutOfMemory>
+pub fn ask_outcome(
+    alloc: Global,
+    net: &PlainNet,
+    binding: u32,
+    kind: OidKind,
+    code: u32,
+    value: &OidValue,
+) -> Result<PlainOutcome, OutOfMemory>
     ensures { IfOk result (λ o. o ≡ ask_outcome net.now binding kind code value.now) }
 {
-    if matches!(state_of(net, ModuleId::Binding(binding)), ModuleState::Unbound) {
+    if matches!(
+        state_of(net, ModuleId::Binding(binding)),
+        ModuleState::Unbound
+    ) {
         return Ok(refused(alloc, Refusal::Unbound));
     }
     let request = OidNo(net.next().request());

@@ -6,14 +6,18 @@ use journal_types::{Refusal, Reply, Row, Target};
 use ndis_base::{ModuleId, ModuleState, OutOfMemory, StatusName, StatusNo};
 use plain_net::PlainNet;
 use plain_parts::rows::{no_rows, one_row, row_before, two_rows};
+use plain_places::PlainOutcome;
 use plain_places::lists::next_binding;
 use plain_places::outcome::refused;
 use plain_places::places::position;
 use plain_places::targets::next_status;
-use plain_places::PlainOutcome;
 use std::alloc::Global;
 
-pub fn status_outcome(alloc: Global, net: &PlainNet, name: StatusName) -> Result<PlainOutcome, OutOfMemory>
+pub fn status_outcome(
+    alloc: Global,
+    net: &PlainNet,
+    name: StatusName,
+) -> Result<PlainOutcome, OutOfMemory>
     ensures { IfOk result (λ o. o ≡ status_outcome net.now name) }
 {
     let ms = net.modules();
@@ -28,7 +32,12 @@ pub fn status_outcome(alloc: Global, net: &PlainNet, name: StatusName) -> Result
     Ok(PlainOutcome::of(Reply::Ok, one_row(alloc, away)?))
 }
 
-fn seen_by_all(alloc: Global, number: StatusNo, b: u32, bindings: &[ModuleState]) -> Result<Vec<Row>, OutOfMemory>
+fn seen_by_all(
+    alloc: Global,
+    number: StatusNo,
+    b: u32,
+    bindings: &[ModuleState],
+) -> Result<Vec<Row>, OutOfMemory>
     ensures { IfOk result (λ rows. rows.items ≡ seen_by_all number b bindings.now) }
 {
     match bindings {
@@ -44,7 +53,13 @@ fn seen_by_all(alloc: Global, number: StatusNo, b: u32, bindings: &[ModuleState]
 }
 
 /// A status on its way is worked.
-pub fn status_rows(alloc: Global, net: &PlainNet, number: StatusNo, name: StatusName, to: Target) -> Result<Vec<Row>, OutOfMemory>
+pub fn status_rows(
+    alloc: Global,
+    net: &PlainNet,
+    number: StatusNo,
+    name: StatusName,
+    to: Target,
+) -> Result<Vec<Row>, OutOfMemory>
     ensures { IfOk result (λ rows. rows.items ≡ status_rows net.now number name to) }
 {
     let ms = net.modules();

@@ -6,7 +6,7 @@ ghost use Rattle.stack_rules.specs.OidTable.{queried, query_only, may_set, filte
 
 use ndis_base::{OidKind, OidStatus, OidValue};
 use plain_net::PlainNet;
-use plain_state::port::{filter_in, PACKET_FILTER};
+use plain_state::port::{PACKET_FILTER, filter_in};
 use stack_rules::Request;
 use std::marker::Model;
 

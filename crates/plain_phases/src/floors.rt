@@ -37,7 +37,11 @@ impl Floor {
 }
 
 /// All bindings from a number on.
-pub fn binding_ids(alloc: Global, b: u32, states: &[ModuleState]) -> Result<Vec<ModuleId>, OutOfMemory>
+pub fn binding_ids(
+    alloc: Global,
+    b: u32,
+    states: &[ModuleState],
+) -> Result<Vec<ModuleId>, OutOfMemory>
     ensures { IfOk result (λ modules. modules.items ≡ binding_ids b states.now) }
 {
     match states {
@@ -182,11 +186,18 @@ fn states_of(alloc: Global, states: &[ModuleState], m: ModuleId) -> Result<Vec<R
 }
 
 /// Each module takes some states, one after the other.
-pub fn state_rows(alloc: Global, states: &[ModuleState], modules: &[ModuleId]) -> Result<Vec<Row>, OutOfMemory>
+pub fn state_rows(
+    alloc: Global,
+    states: &[ModuleState],
+    modules: &[ModuleId],
+) -> Result<Vec<Row>, OutOfMemory>
     ensures { IfOk result (λ rows. rows.items ≡ state_rows states.now modules.now) }
 {
     match modules {
         [] => Ok(no_rows(alloc)),
-        [m, others @ ..] => rows_and(states_of(alloc, states, *m)?, state_rows(alloc, states, others)?),
+        [m, others @ ..] => rows_and(
+            states_of(alloc, states, *m)?,
+            state_rows(alloc, states, others)?,
+        ),
     }
 }

@@ -7,15 +7,18 @@ ghost use Rattle.journal_types.specs.declared.Refusal.TheVariants as refusal;
 ghost use Rattle.stack_rules.specs.Outcome.{refused};
 ghost use Rattle.stack_rules.specs.Pauses.{initialize_rows, initialize_outcome, begin_outcome, paused_rows, paused_reply, pause_at, pause_outcome, restarting, restart_rows, restart_at, restart_outcome, halt_rows, halt_outcome, floors};
 
-use crate::floors::{binding_ids, filter_modules, floors, floors_from_below, modules_at, paused_in_front, running_in_front, state_row, state_rows, Floor};
+use crate::floors::{
+    Floor, binding_ids, filter_modules, floors, floors_from_below, modules_at, paused_in_front,
+    running_in_front, state_row, state_rows,
+};
 use crate::items::halt_items;
 use journal_types::{FilterList, PhaseOf, Refusal, Reply, Row};
 use ndis_base::{ConfigNo, ModuleId, ModuleState, OutOfMemory, Phase};
 use plain_net::PlainNet;
 use plain_parts::rows::{no_rows, one_row, row_before, rows_and, two_rows};
+use plain_places::PlainOutcome;
 use plain_places::lists::outstanding;
 use plain_places::outcome::{answered, refused};
-use plain_places::PlainOutcome;
 use std::alloc::Global;
 
 fn phase_row(p: Phase) -> Row
@@ -40,12 +43,20 @@ fn initialize_rows(alloc: Global, net: &PlainNet) -> Result<Vec<Row>, OutOfMemor
         config: ConfigNo(1),
         filters: FilterList::of(Vec::new(alloc)),
     };
-    let opened = state_rows(alloc, &[ModuleState::Opening, ModuleState::Paused], bindings.as_slice())?;
+    let opened = state_rows(
+        alloc,
+        &[ModuleState::Opening, ModuleState::Paused],
+        bindings.as_slice(),
+    )?;
     let after = rows_and(opened, two_rows(alloc, phase_row(Phase::Paused), config)?)?;
     row_before(state_row(ModuleState::Paused, ModuleId::Miniport), after)
 }
 
-pub fn initialize_outcome(alloc: Global, net: &PlainNet, refuses: bool) -> Result<PlainOutcome, OutOfMemory>
+pub fn initialize_outcome(
+    alloc: Global,
+    net: &PlainNet,
+    refuses: bool,
+) -> Result<PlainOutcome, OutOfMemory>
     ensures { IfOk result (λ o. o ≡ initialize_outcome net.now refuses) }
 {
     if !matches!(net.phase(), Phase::Halted) {
@@ -69,14 +80,22 @@ pub fn begin_outcome(alloc: Global, net: &PlainNet) -> Result<PlainOutcome, OutO
 }
 
 /// The position becomes Paused and the next one Pausing; after the miniport the stack is Paused.
-fn paused_rows(alloc: Global, net: &PlainNet, all: &[Floor], i: usize) -> Result<Vec<Row>, OutOfMemory>
+fn paused_rows(
+    alloc: Global,
+    net: &PlainNet,
+    all: &[Floor],
+    i: usize,
+) -> Result<Vec<Row>, OutOfMemory>
     requires floors { all.now ≡ floors net.now.modules }
     requires within { i ≤ length all.now }
     ensures { IfOk result (λ rows. rows.items ≡ paused_rows net.now i) }
 {
     let paused = state_rows(alloc, &[ModuleState::Paused], modules_at(all, i))?;
     if i + 1 < all.len() {
-        rows_and(paused, state_rows(alloc, &[ModuleState::Pausing], modules_at(all, i + 1))?)
+        rows_and(
+            paused,
+            state_rows(alloc, &[ModuleState::Pausing], modules_at(all, i + 1))?,
+        )
     } else {
         rows_and(paused, one_row(alloc, phase_row(Phase::Paused))?)
     }
@@ -87,10 +106,19 @@ fn paused_reply(net: &PlainNet, all: &[Floor], i: usize) -> Reply
     requires within { i ≤ length all.now }
     ensures { result ≡ paused_reply net.now i }
 {
-    if i + 1 < all.len() { Reply::Next } else { Reply::Paused }
+    if i + 1 < all.len() {
+        Reply::Next
+    } else {
+        Reply::Paused
+    }
 }
 
-fn pause_at(alloc: Global, net: &PlainNet, all: &[Floor], i: usize) -> Result<PlainOutcome, OutOfMemory>
+fn pause_at(
+    alloc: Global,
+    net: &PlainNet,
+    all: &[Floor],
+    i: usize,
+) -> Result<PlainOutcome, OutOfMemory>
     requires floors { all.now ≡ floors net.now.modules }
     requires within { i ≤ length all.now }
     ensures { IfOk result (λ o. o ≡ pause_at net.now i) }
@@ -136,7 +164,12 @@ fn running_at_top(alloc: Global, top: bool) -> Result<Vec<Row>, OutOfMemory>
 }
 
 /// The lowest position that doesn't run, i from the bottom, restarts and runs.
-fn restart_rows(alloc: Global, net: &PlainNet, all: &[Floor], i: usize) -> Result<Vec<Row>, OutOfMemory>
+fn restart_rows(
+    alloc: Global,
+    net: &PlainNet,
+    all: &[Floor],
+    i: usize,
+) -> Result<Vec<Row>, OutOfMemory>
     requires floors { all.now ≡ reverse (floors net.now.modules) }
     requires within { i ≤ length all.now }
     ensures { IfOk result (λ rows. rows.items ≡ restart_rows net.now i) }
@@ -147,13 +180,22 @@ fn restart_rows(alloc: Global, net: &PlainNet, all: &[Floor], i: usize) -> Resul
     rows_and(restarting(alloc, net)?, rows_and(run, last)?)
 }
 
-fn restart_at(alloc: Global, net: &PlainNet, all: &[Floor], i: usize) -> Result<PlainOutcome, OutOfMemory>
+fn restart_at(
+    alloc: Global,
+    net: &PlainNet,
+    all: &[Floor],
+    i: usize,
+) -> Result<PlainOutcome, OutOfMemory>
     requires floors { all.now ≡ reverse (floors net.now.modules) }
     requires within { i ≤ length all.now }
     ensures { IfOk result (λ o. o ≡ restart_at net.now i) }
 {
     let rows = restart_rows(alloc, net, all, i)?;
-    let reply = if i + 1 == all.len() { Reply::Running } else { Reply::Next };
+    let reply = if i + 1 == all.len() {
+        Reply::Running
+    } else {
+        Reply::Next
+    };
     Ok(PlainOutcome::of(reply, rows))
 }
 
@@ -181,7 +223,11 @@ fn halt_rows(alloc: Global, net: &PlainNet) -> Result<Vec<Row>, OutOfMemory>
         phase_row(Phase::Halted),
     )?;
     let detached = state_rows(alloc, &[ModuleState::Detached], filters.as_slice())?;
-    let closed = state_rows(alloc, &[ModuleState::Closing, ModuleState::Unbound], bindings.as_slice())?;
+    let closed = state_rows(
+        alloc,
+        &[ModuleState::Closing, ModuleState::Unbound],
+        bindings.as_slice(),
+    )?;
     rows_and(closed, rows_and(detached, last)?)
 }
 

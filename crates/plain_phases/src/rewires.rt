@@ -11,8 +11,8 @@ use ndis_base::{ConfigNo, ModuleId, ModuleState, OutOfMemory, Phase};
 use plain_net::PlainNet;
 use plain_parts::copies::copy_numbers;
 use plain_parts::rows::{next_number, one_row, row_before, rows_and, two_rows};
-use plain_places::outcome::{refused, MAX_FILTERS};
 use plain_places::PlainOutcome;
+use plain_places::outcome::{MAX_FILTERS, refused};
 use stack_rules::Choice;
 use std::alloc::Global;
 
@@ -66,7 +66,11 @@ fn when_attached(alloc: Global, choice: Choice, outcome: PlainOutcome) -> PlainO
 }
 
 /// What every change is refused for first.
-fn when_quiet(alloc: Global, net: &PlainNet, outcome: PlainOutcome) -> Result<PlainOutcome, OutOfMemory>
+fn when_quiet(
+    alloc: Global,
+    net: &PlainNet,
+    outcome: PlainOutcome,
+) -> Result<PlainOutcome, OutOfMemory>
     ensures { IfOk result (λ o. o ≡ when_quiet net.now outcome) }
 {
     if !matches!(net.phase(), Phase::Paused) {
@@ -93,7 +97,12 @@ fn inserted(alloc: Global, net: &PlainNet, position: u8) -> Result<PlainOutcome,
     Ok(PlainOutcome::of(Reply::Inserted { filter: f }, rows))
 }
 
-fn insert_at(alloc: Global, net: &PlainNet, position: u8, choice: Choice) -> Result<PlainOutcome, OutOfMemory>
+fn insert_at(
+    alloc: Global,
+    net: &PlainNet,
+    position: u8,
+    choice: Choice,
+) -> Result<PlainOutcome, OutOfMemory>
     ensures { IfOk result (λ o. o ≡ (if length net.now.modules.order == 16 then refused refusal.Full else (if is_bad_position net.now position then refused refusal.BadPosition else when_attached choice (inserted net.now position)))) }
 {
     if net.modules().order().len() == MAX_FILTERS {
@@ -105,7 +114,12 @@ fn insert_at(alloc: Global, net: &PlainNet, position: u8, choice: Choice) -> Res
     Ok(when_attached(alloc, choice, inserted(alloc, net, position)?))
 }
 
-pub fn insert_outcome(alloc: Global, net: &PlainNet, position: u8, choice: Choice) -> Result<PlainOutcome, OutOfMemory>
+pub fn insert_outcome(
+    alloc: Global,
+    net: &PlainNet,
+    position: u8,
+    choice: Choice,
+) -> Result<PlainOutcome, OutOfMemory>
     ensures { IfOk result (λ o. o ≡ insert_outcome net.now position choice) }
 {
     when_quiet(alloc, net, insert_at(alloc, net, position, choice)?)
@@ -187,7 +201,12 @@ fn replaced(alloc: Global, net: &PlainNet, f: u64) -> Result<PlainOutcome, OutOf
     Ok(PlainOutcome::of(Reply::Replaced { filter: new }, rows))
 }
 
-fn replace_in(alloc: Global, net: &PlainNet, f: u64, choice: Choice) -> Result<PlainOutcome, OutOfMemory>
+fn replace_in(
+    alloc: Global,
+    net: &PlainNet,
+    f: u64,
+    choice: Choice,
+) -> Result<PlainOutcome, OutOfMemory>
     ensures { IfOk result (λ o. o ≡ (if is_in f net.now.modules.order then when_attached choice (replaced net.now f) else refused refusal.NoModule)) }
 {
     if is_in(f, net.modules().order()) {
@@ -197,7 +216,12 @@ fn replace_in(alloc: Global, net: &PlainNet, f: u64, choice: Choice) -> Result<P
     }
 }
 
-pub fn replace_outcome(alloc: Global, net: &PlainNet, f: u64, choice: Choice) -> Result<PlainOutcome, OutOfMemory>
+pub fn replace_outcome(
+    alloc: Global,
+    net: &PlainNet,
+    f: u64,
+    choice: Choice,
+) -> Result<PlainOutcome, OutOfMemory>
     ensures { IfOk result (λ o. o ≡ replace_outcome net.now f choice) }
 {
     when_quiet(alloc, net, replace_in(alloc, net, f, choice)?)

@@ -193,10 +193,18 @@ pub fn state_of(net: &PlainNet, m: ModuleId) -> ModuleState
 pub fn next_binding(b: u32) -> Result<u32, OutOfMemory>
     ensures { IfOk result (λ next. next ≡ b + 1) }
 {
-    if b < u32::MAX { Ok(b + 1) } else { Err(OutOfMemory) }
+    if b < u32::MAX {
+        Ok(b + 1)
+    } else {
+        Err(OutOfMemory)
+    }
 }
 
-fn numbers_from(alloc: Global, b: u32, setups: &[(ProtocolKind, usize)]) -> Result<Vec<u32>, OutOfMemory>
+fn numbers_from(
+    alloc: Global,
+    b: u32,
+    setups: &[(ProtocolKind, usize)],
+) -> Result<Vec<u32>, OutOfMemory>
     ensures { IfOk result (λ numbers. numbers.items ≡ numbers_from b setups.now) }
 {
     match setups {

@@ -74,7 +74,15 @@ pub fn refused(alloc: Global, cause: Refusal) -> PlainOutcome
 }
 
 /// A list of its owner, which is no clone and no copy.
-pub fn root(alloc: Global, net: &PlainNet, n: u64, owner: ModuleId, direction: Direction, cancel: Option<u32>, frames: &Frames) -> Result<Row, OutOfMemory>
+pub fn root(
+    alloc: Global,
+    net: &PlainNet,
+    n: u64,
+    owner: ModuleId,
+    direction: Direction,
+    cancel: Option<u32>,
+    frames: &Frames,
+) -> Result<Row, OutOfMemory>
     ensures { IfOk result (λ made. made ≡ root net.now n owner direction cancel frames.now) }
 {
     Ok(Row::Issue {

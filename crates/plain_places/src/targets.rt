@@ -89,17 +89,29 @@ fn filters_above(alloc: Global, ms: &PlainModules, i: usize) -> Result<Vec<u64>,
     reversed(alloc, front_of(ms.order(), i.saturating_sub(1)))
 }
 
-fn filters_between(alloc: Global, ms: &PlainModules, top: usize, i: usize) -> Result<Vec<u64>, OutOfMemory>
+fn filters_between(
+    alloc: Global,
+    ms: &PlainModules,
+    top: usize,
+    i: usize,
+) -> Result<Vec<u64>, OutOfMemory>
     ensures { IfOk result (λ filters. filters.items ≡ filters_between ms.now top i) }
 {
-    reversed(alloc, rest_of(front_of(ms.order(), i.saturating_sub(1)), top))
+    reversed(
+        alloc,
+        rest_of(front_of(ms.order(), i.saturating_sub(1)), top),
+    )
 }
 
 /// A send goes down to the next filter with the send pair, else to the miniport.
 pub fn next_down(ms: &PlainModules, i: usize) -> Target
     ensures { result ≡ next_down ms.now i }
 {
-    first_sending(ms, rest_of(ms.order(), i), Target::Module(ModuleId::Miniport))
+    first_sending(
+        ms,
+        rest_of(ms.order(), i),
+        Target::Module(ModuleId::Miniport),
+    )
 }
 
 /// A receive goes up to the next filter with the receive pair, else to the bindings.
@@ -111,7 +123,12 @@ pub fn next_up(alloc: Global, ms: &PlainModules, i: usize) -> Result<Target, Out
 }
 
 /// A done send goes up through the filters that had passed it, and to its owner.
-pub fn next_done(alloc: Global, ms: &PlainModules, i: usize, owner: ModuleId) -> Result<Target, OutOfMemory>
+pub fn next_done(
+    alloc: Global,
+    ms: &PlainModules,
+    i: usize,
+    owner: ModuleId,
+) -> Result<Target, OutOfMemory>
     ensures { IfOk result (λ to. to ≡ next_done ms.now i owner) }
 {
     let filters = filters_between(alloc, ms, position(ms.order(), owner), i)?;
@@ -145,7 +162,13 @@ fn upward(alloc: Global, ms: &PlainModules, list: ListNo, i: usize) -> Result<Ro
 }
 
 /// Onwards: down for a send, up for a receive.
-pub fn onward(alloc: Global, ms: &PlainModules, list: ListNo, d: Direction, i: usize) -> Result<Row, OutOfMemory>
+pub fn onward(
+    alloc: Global,
+    ms: &PlainModules,
+    list: ListNo,
+    d: Direction,
+    i: usize,
+) -> Result<Row, OutOfMemory>
     ensures { IfOk result (λ made. made ≡ onward ms.now list d i) }
 {
     match d {
@@ -169,7 +192,15 @@ fn backward(ms: &PlainModules, list: ListNo, owner: ModuleId, i: usize, status: 
     }
 }
 
-fn homeward_by(alloc: Global, ms: &PlainModules, list: ListNo, owner: ModuleId, d: Direction, i: usize, status: ListStatus) -> Result<Row, OutOfMemory>
+fn homeward_by(
+    alloc: Global,
+    ms: &PlainModules,
+    list: ListNo,
+    owner: ModuleId,
+    d: Direction,
+    i: usize,
+    status: ListStatus,
+) -> Result<Row, OutOfMemory>
     ensures { IfOk result (λ made. made ≡ homeward_by ms.now list owner d i status) }
 {
     match d {
@@ -184,14 +215,26 @@ fn homeward_by(alloc: Global, ms: &PlainModules, list: ListNo, owner: ModuleId, 
 }
 
 /// Homewards: done for a send, back for a receive.
-pub fn homeward(alloc: Global, ms: &PlainModules, l: &LiveList, i: usize, status: ListStatus) -> Result<Row, OutOfMemory>
+pub fn homeward(
+    alloc: Global,
+    ms: &PlainModules,
+    l: &LiveList,
+    i: usize,
+    status: ListStatus,
+) -> Result<Row, OutOfMemory>
     ensures { IfOk result (λ made. made ≡ homeward ms.now l.now i status) }
 {
     homeward_by(alloc, ms, l.list, l.owner, l.direction, i, status)
 }
 
 /// A module turns the list back, and it goes homewards from there.
-pub fn turned_back(alloc: Global, ms: &PlainModules, l: &LiveList, m: ModuleId, status: ListStatus) -> Result<Vec<Row>, OutOfMemory>
+pub fn turned_back(
+    alloc: Global,
+    ms: &PlainModules,
+    l: &LiveList,
+    m: ModuleId,
+    status: ListStatus,
+) -> Result<Vec<Row>, OutOfMemory>
     ensures { IfOk result (λ rows. rows.items ≡ turned_back ms.now l.now m status) }
 {
     let turned = Row::TurnBack {

@@ -74,7 +74,12 @@ fn tag(control: u16) -> [u8; 4]
 pub fn pushed(alloc: Global, control: u16, frame: &[u8]) -> Result<Frame, OutOfMemory>
     ensures { IfOk result (λ made. made ≡ pushed control frame.now) }
 {
-    joined(alloc, front_of(frame, 12), &tag(control), rest_of(frame, 12))
+    joined(
+        alloc,
+        front_of(frame, 12),
+        &tag(control),
+        rest_of(frame, 12),
+    )
 }
 
 /// The frame without its tag.
@@ -85,7 +90,12 @@ pub fn popped(alloc: Global, frame: &[u8]) -> Result<Frame, OutOfMemory>
 }
 
 /// The frame of three pieces.
-pub fn joined(alloc: Global, first: &[u8], second: &[u8], third: &[u8]) -> Result<Frame, OutOfMemory>
+pub fn joined(
+    alloc: Global,
+    first: &[u8],
+    second: &[u8],
+    third: &[u8],
+) -> Result<Frame, OutOfMemory>
     ensures { IfOk result (λ made. made ≡ first.now ++ (second.now ++ third.now)) }
 {
     let mut bytes = Vec::from_slice(alloc, first)?;

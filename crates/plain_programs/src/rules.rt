@@ -4,7 +4,9 @@ ghost use Rattle.std.specs.Str.{bytes_eq};
 ghost use Rattle.program_types.specs.Apply.{holds, act, apply_rule, apply, applied, onto};
 ghost use Rattle.program_types.specs.declared.Action.TheVariants as action;
 
-use crate::bytes::{byte_at, front_of, is_tagged, joined, pair_at, part_of, popped, pushed, rest_of, vlan_of};
+use crate::bytes::{
+    byte_at, front_of, is_tagged, joined, pair_at, part_of, popped, pushed, rest_of, vlan_of,
+};
 use journal_types::Frames;
 use ndis_base::{Frame, OutOfMemory};
 use program_types::{Action, Program, Rule, Test};
@@ -29,7 +31,8 @@ fn holds(test: Test, frame: &[u8]) -> bool
         Test::EtherType(n) => pair_at(frame, 12) == n,
         Test::Vlan(n) => is_tagged(frame) && vlan_of(frame) == n,
         Test::Longer(n) => (n as usize) < frame.len(),
-        Test::Byte { at, value } => (at as usize) < frame.len() && byte_at(frame, at as usize) == value,
+        Test::Byte { at, value } => (at as usize) < frame.len()
+            && byte_at(frame, at as usize) == value,
     }
 }
 
@@ -45,7 +48,12 @@ fn with_byte(alloc: Global, at: usize, value: u8, frame: &[u8]) -> Result<Frame,
 }
 
 /// What an action makes of a frame, which must not grow past `max` bytes.
-fn act(alloc: Global, max: usize, action: Action, frame: Frame) -> Result<Option<Frame>, OutOfMemory>
+fn act(
+    alloc: Global,
+    max: usize,
+    action: Action,
+    frame: Frame,
+) -> Result<Option<Frame>, OutOfMemory>
     ensures { IfOk result (λ made. made ≡ act max action frame) }
 {
     let bytes = frame.bytes();
@@ -77,7 +85,12 @@ fn act(alloc: Global, max: usize, action: Action, frame: Frame) -> Result<Option
 }
 
 /// What one rule makes of a frame.
-fn apply_rule(alloc: Global, max: usize, rule: Rule, frame: Frame) -> Result<Option<Frame>, OutOfMemory>
+fn apply_rule(
+    alloc: Global,
+    max: usize,
+    rule: Rule,
+    frame: Frame,
+) -> Result<Option<Frame>, OutOfMemory>
     ensures { IfOk result (λ made. made ≡ apply_rule max rule frame) }
 {
     if holds(rule.test, frame.bytes()) {
@@ -88,7 +101,12 @@ fn apply_rule(alloc: Global, max: usize, rule: Rule, frame: Frame) -> Result<Opt
 }
 
 /// What rules make of a frame, each acting on what those before it left.
-fn apply(alloc: Global, max: usize, rules: &[Rule], frame: Frame) -> Result<Option<Frame>, OutOfMemory>
+fn apply(
+    alloc: Global,
+    max: usize,
+    rules: &[Rule],
+    frame: Frame,
+) -> Result<Option<Frame>, OutOfMemory>
     ensures { IfOk result (λ made. made ≡ apply max rules.now frame) }
 {
     match rules {
@@ -117,7 +135,12 @@ fn onto(frame: Option<Frame>, others: Option<Vec<Frame>>) -> Result<Option<Vec<F
     }
 }
 
-fn applied_items(alloc: Global, max: usize, rules: &[Rule], frames: &[Frame]) -> Result<Option<Vec<Frame>>, OutOfMemory>
+fn applied_items(
+    alloc: Global,
+    max: usize,
+    rules: &[Rule],
+    frames: &[Frame],
+) -> Result<Option<Vec<Frame>>, OutOfMemory>
     ensures { IfOk result (λ all. option_map (λ v. v.items) all ≡ applied max rules.now frames.now) }
 {
     match frames {
@@ -130,7 +153,12 @@ fn applied_items(alloc: Global, max: usize, rules: &[Rule], frames: &[Frame]) ->
 }
 
 /// What a program makes of the frames of a list: none where it makes none of one of them.
-pub fn applied(alloc: Global, max: usize, program: &Program, frames: &Frames) -> Result<Option<Frames>, OutOfMemory>
+pub fn applied(
+    alloc: Global,
+    max: usize,
+    program: &Program,
+    frames: &Frames,
+) -> Result<Option<Frames>, OutOfMemory>
     ensures { IfOk result (λ made. made ≡ applied max program.now frames.now) }
 {
     match applied_items(alloc, max, program.rules(), frames.items())? {

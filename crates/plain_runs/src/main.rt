@@ -15,8 +15,7 @@ use ndis_journal::write_text;
 use plain_walk::stacks::WalkedStack;
 use plain_walk::walk;
 use std::alloc::Global;
-use std::fs;
-use std::io;
+use std::{fs, io};
 
 fn report_of(alloc: Global, stacks: &[WalkedStack]) -> Result<Vec<u8>, OutOfMemory> {
     let mut report = Vec::new(alloc);
@@ -43,7 +42,14 @@ fn same_in_front(a: &[u8], b: &[u8]) -> usize {
     a.len()
 }
 
-fn compare(rt: &impl Print, alloc: Global, name: &str, script: &str, order: &str, report: &str) -> io::Result<()> {
+fn compare(
+    rt: &impl Print,
+    alloc: Global,
+    name: &str,
+    script: &str,
+    order: &str,
+    report: &str,
+) -> io::Result<()> {
     match walked(alloc, script, order) {
         Err(fault) => println!(rt; "{name} {fault:?}"),
         Ok(text) => {
@@ -62,13 +68,29 @@ fn main(rt: HostRuntime) -> io::Result<()> {
     for line in names.as_str().lines() {
         let mut words = line.split_whitespace();
         if let Some(name) = words.next() {
-            let script = fs::read_to_string(&rt, format!(in rt.alloc(); "{name}.script.json")?.as_str())?;
-            let report = fs::read_to_string(&rt, format!(in rt.alloc(); "{name}.report")?.as_str())?;
+            let script = fs::read_to_string(
+                &rt,
+                format!(in rt.alloc(); "{name}.script.json")?.as_str(),
+            )?;
+            let report = fs::read_to_string(
+                &rt,
+                format!(in rt.alloc(); "{name}.report")?.as_str(),
+            )?;
             let order = match words.next() {
                 None => String::new(rt.alloc()),
-                Some(_) => fs::read_to_string(&rt, format!(in rt.alloc(); "{name}.order")?.as_str())?,
+                Some(_) => fs::read_to_string(
+                    &rt,
+                    format!(in rt.alloc(); "{name}.order")?.as_str(),
+                )?,
             };
-            compare(&rt, rt.alloc(), name, script.as_str(), order.as_str(), report.as_str())?;
+            compare(
+                &rt,
+                rt.alloc(),
+                name,
+                script.as_str(),
+                order.as_str(),
+                report.as_str(),
+            )?;
         }
     }
     Ok(())

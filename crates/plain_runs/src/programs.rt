@@ -20,7 +20,11 @@ pub fn word_in(value: &Value) -> Result<u16, Fault> {
 
 fn byte_in(value: &Value) -> Result<u8, Fault> {
     let n = word_in(value)?;
-    if n < 256 { Ok(n as u8) } else { Err(Fault::Form) }
+    if n < 256 {
+        Ok(n as u8)
+    } else {
+        Err(Fault::Form)
+    }
 }
 
 /// An Ethernet address.

@@ -2,7 +2,7 @@
 use crate::fault::Fault;
 use crate::setups::{bytes_in, filter_in, items_in, member, number_in, small, stack_in, text_in};
 use journal_types::{Event, Frames, Way};
-use ndis_base::{oid_kind_of_name, status_name_of_name, Frame, ListNo, OidValue};
+use ndis_base::{Frame, ListNo, OidValue, oid_kind_of_name, status_name_of_name};
 use plain_walk::{Call, FilterAt, PlainScript, StackAt, What};
 use serde_json::Value;
 use std::alloc::Global;
@@ -29,7 +29,11 @@ fn frames_in(alloc: Global, call: &Value) -> Result<Frames, Fault> {
 
 fn identifier_in(value: &Value) -> Result<u32, Fault> {
     let n = number_in(value)?;
-    if n <= 4294967295 { Ok(n as u32) } else { Err(Fault::Form) }
+    if n <= 4294967295 {
+        Ok(n as u32)
+    } else {
+        Err(Fault::Form)
+    }
 }
 
 fn cancel_in(call: &Value) -> Result<Option<u32>, Fault> {
@@ -78,7 +82,11 @@ fn module_in(call: &Value) -> Result<u64, Fault> {
 
 fn position_in(call: &Value) -> Result<u8, Fault> {
     let n = small(call, "position")?;
-    if n < 256 { Ok(n as u8) } else { Err(Fault::Form) }
+    if n < 256 {
+        Ok(n as u8)
+    } else {
+        Err(Fault::Form)
+    }
 }
 
 fn send_in(alloc: Global, call: &Value) -> Result<Event, Fault> {
@@ -219,6 +227,10 @@ pub fn read_script(alloc: Global, text: &str) -> Result<PlainScript, Fault> {
     let value = Value::from_str(alloc, text)?;
     Ok(PlainScript {
         stacks: stacks_in(alloc, items_in(member(&value, "stacks")?)?)?,
-        lanes: lanes_in(alloc, small(&value, "lanes")?, items_in(member(&value, "calls")?)?)?,
+        lanes: lanes_in(
+            alloc,
+            small(&value, "lanes")?,
+            items_in(member(&value, "calls")?)?,
+        )?,
     })
 }

@@ -3,7 +3,8 @@ use crate::fault::Fault;
 use crate::programs::{address_in, program_in, word_in};
 use journal_types::{BindingSetups, PortSetup, Setup, StackHead, UpperLinks};
 use ndis_base::{
-    filter_kind_of_name, miniport_kind_of_name, protocol_kind_of_name, Handlers, MiniportKind, ProtocolKind,
+    Handlers, MiniportKind, ProtocolKind, filter_kind_of_name, miniport_kind_of_name,
+    protocol_kind_of_name,
 };
 use plain_walk::{FilterAt, StackAt};
 use serde_json::Value;
@@ -118,9 +119,16 @@ fn uppers_of(alloc: Global, stack: u8, stacks: &[Value]) -> Result<Vec<(u8, u32,
 }
 
 /// The stack of this number.
-pub fn stack_in(alloc: Global, stack: u8, value: &Value, stacks: &[Value]) -> Result<StackAt, Fault> {
+pub fn stack_in(
+    alloc: Global,
+    stack: u8,
+    value: &Value,
+    stacks: &[Value],
+) -> Result<StackAt, Fault> {
     let port = member(value, "miniport")?;
-    let kind: MiniportKind = miniport_kind_of_name(text_in(member(port, "kind")?)?).ok_or(Fault::Form)?;
+    let kind: MiniportKind = miniport_kind_of_name(text_in(member(port, "kind")?)?).ok_or(
+        Fault::Form,
+    )?;
     Ok(StackAt {
         head: StackHead {
             stack,

@@ -9,9 +9,9 @@ use ndis_base::{ListStatus, ModuleId, OutOfMemory};
 use plain_net::PlainNet;
 use plain_parts::rows::{no_rows, rows_and, sum_of};
 use plain_parts::same::{is_down, same_number};
+use plain_places::PlainOutcome;
 use plain_places::lists::ready_lists;
 use plain_places::targets::turned_back;
-use plain_places::PlainOutcome;
 use plain_state::PlainModules;
 use stack_rules::LiveList;
 use std::alloc::Global;
@@ -23,7 +23,12 @@ fn is_named(id: u32, l: &LiveList) -> bool
 }
 
 /// The lists that a module turns back: sends that it keeps ready and that carry the identifier.
-fn cancelled_at(alloc: Global, net: &PlainNet, id: u32, m: ModuleId) -> Result<Vec<LiveList>, OutOfMemory>
+fn cancelled_at(
+    alloc: Global,
+    net: &PlainNet,
+    id: u32,
+    m: ModuleId,
+) -> Result<Vec<LiveList>, OutOfMemory>
     ensures { IfOk result (λ named. named.items ≡ cancelled_at net.now id m) }
 {
     let ready = ready_lists(alloc, net, m)?;
@@ -36,7 +41,12 @@ fn cancelled_at(alloc: Global, net: &PlainNet, id: u32, m: ModuleId) -> Result<V
     Ok(named)
 }
 
-fn aborted(alloc: Global, net: &PlainNet, m: ModuleId, lists: &[LiveList]) -> Result<Vec<Row>, OutOfMemory>
+fn aborted(
+    alloc: Global,
+    net: &PlainNet,
+    m: ModuleId,
+    lists: &[LiveList],
+) -> Result<Vec<Row>, OutOfMemory>
     ensures { IfOk result (λ rows. rows.items ≡ flat_map (aborted net.now m) lists.now) }
 {
     match lists {
@@ -48,7 +58,12 @@ fn aborted(alloc: Global, net: &PlainNet, m: ModuleId, lists: &[LiveList]) -> Re
     }
 }
 
-fn cancel_rows_at(alloc: Global, net: &PlainNet, id: u32, m: ModuleId) -> Result<Vec<Row>, OutOfMemory>
+fn cancel_rows_at(
+    alloc: Global,
+    net: &PlainNet,
+    id: u32,
+    m: ModuleId,
+) -> Result<Vec<Row>, OutOfMemory>
     ensures { IfOk result (λ rows. rows.items ≡ cancel_rows_at net.now id m) }
 {
     let named = cancelled_at(alloc, net, id, m)?;
@@ -81,7 +96,12 @@ fn queues(alloc: Global, ms: &PlainModules) -> Result<Vec<ModuleId>, OutOfMemory
     queues_in(alloc, ms, ms.order())
 }
 
-fn cancel_rows(alloc: Global, net: &PlainNet, id: u32, modules: &[ModuleId]) -> Result<Vec<Row>, OutOfMemory>
+fn cancel_rows(
+    alloc: Global,
+    net: &PlainNet,
+    id: u32,
+    modules: &[ModuleId],
+) -> Result<Vec<Row>, OutOfMemory>
     ensures { IfOk result (λ rows. rows.items ≡ flat_map (cancel_rows_at net.now id) modules.now) }
 {
     match modules {
@@ -93,7 +113,12 @@ fn cancel_rows(alloc: Global, net: &PlainNet, id: u32, modules: &[ModuleId]) -> 
     }
 }
 
-fn count_cancelled(alloc: Global, net: &PlainNet, id: u32, modules: &[ModuleId]) -> Result<u64, OutOfMemory>
+fn count_cancelled(
+    alloc: Global,
+    net: &PlainNet,
+    id: u32,
+    modules: &[ModuleId],
+) -> Result<u64, OutOfMemory>
     ensures { IfOk result (λ n. n ≡ length (flat_map (cancelled_at net.now id) modules.now)) }
 {
     match modules {

@@ -153,15 +153,18 @@ pub fn may_ask(head: &StackHead, event: &Event) -> bool
             has_binding(head, *binding) && (1 <= list.0 && list.0 <= 1152921504606846976)
         }
         Event::Cancel { id } => is_identifier(*id),
-        Event::Ask { binding, value, .. } => has_binding(head, *binding) && value.bytes().len() <= 8,
+        Event::Ask { binding, value, .. } => has_binding(head, *binding)
+            && value.bytes().len() <= 8,
         Event::CrossPut {
             stack,
             vlan,
             frames,
             ..
-        } => has_mux(head) && (*stack < 4 && ((1 <= *vlan && *vlan <= 4094) && are_frames(head, frames))),
+        } => has_mux(head)
+            && (*stack < 4 && ((1 <= *vlan && *vlan <= 4094) && are_frames(head, frames))),
         Event::CrossTakeUp { binding, vlan } => has_link(*binding, *vlan, head.uppers.items()),
-        Event::CrossPutUp { stack, frames, .. } => is_lower(*stack, head.link) && are_frames(head, frames),
+        Event::CrossPutUp { stack, frames, .. } => is_lower(*stack, head.link)
+            && are_frames(head, frames),
         _ => true,
     }
 }

@@ -9,11 +9,11 @@ use plain_moves::sends::{first_of, transmitted};
 use plain_net::PlainNet;
 use plain_parts::rows::{no_rows, row_before};
 use plain_parts::same::{is_retain, is_running_phase, is_virtual};
+use plain_places::PlainOutcome;
 use plain_places::lists::{binding_numbers, ready_lists};
 use plain_places::outcome::answered;
 use plain_places::places::position;
 use plain_places::targets::{homeward, onward, turned_back};
-use plain_places::PlainOutcome;
 use plain_state::messages::kind_of_binding;
 use stack_rules::LiveList;
 use std::alloc::Global;
@@ -42,7 +42,12 @@ fn returns_all(alloc: Global, net: &PlainNet, b: u32) -> Result<Vec<Row>, OutOfM
     }
 }
 
-fn passed(alloc: Global, net: &PlainNet, f: u64, lists: &[LiveList]) -> Result<Vec<Row>, OutOfMemory>
+fn passed(
+    alloc: Global,
+    net: &PlainNet,
+    f: u64,
+    lists: &[LiveList],
+) -> Result<Vec<Row>, OutOfMemory>
     ensures { IfOk result (λ rows. rows.items ≡ map (passed_by net.now f) lists.now) }
 {
     match lists {
@@ -79,7 +84,13 @@ fn empties(alloc: Global, net: &PlainNet, l: Option<&LiveList>) -> Result<Vec<Ro
             } else if is_running_phase(net.phase()) {
                 Ok(no_rows(alloc))
             } else {
-                turned_back(alloc, net.modules(), l, ModuleId::Miniport, ListStatus::Paused)
+                turned_back(
+                    alloc,
+                    net.modules(),
+                    l,
+                    ModuleId::Miniport,
+                    ListStatus::Paused,
+                )
             }
         }
     }
@@ -150,7 +161,11 @@ fn drained(alloc: Global, rows: Vec<Row>) -> PlainOutcome
     }
 }
 
-pub fn drain_outcome(alloc: Global, net: &PlainNet, keeps: bool) -> Result<PlainOutcome, OutOfMemory>
+pub fn drain_outcome(
+    alloc: Global,
+    net: &PlainNet,
+    keeps: bool,
+) -> Result<PlainOutcome, OutOfMemory>
     ensures { IfOk result (λ o. o ≡ drain_outcome net.now keeps) }
 {
     if pump_moves(alloc, net)? {

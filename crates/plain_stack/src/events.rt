@@ -7,20 +7,29 @@ use crate::drains::drain_outcome;
 use crate::pumps::pump_outcome;
 use journal_types::Event;
 use ndis_base::OutOfMemory;
-use plain_crosses::crosses::{done_outcome, put_outcome, put_up_outcome, take_outcome, take_up_outcome};
+use plain_crosses::crosses::{
+    done_outcome, put_outcome, put_up_outcome, take_outcome, take_up_outcome,
+};
 use plain_moves::receives::{give_back_outcome, indicate_outcome, lend_outcome};
 use plain_moves::sends::{send_outcome, transmit_outcome};
 use plain_net::PlainNet;
 use plain_oids::requests::ask_outcome;
 use plain_oids::statuses::status_outcome;
-use plain_phases::pauses::{begin_outcome, halt_outcome, initialize_outcome, pause_outcome, restart_outcome};
+use plain_phases::pauses::{
+    begin_outcome, halt_outcome, initialize_outcome, pause_outcome, restart_outcome,
+};
 use plain_phases::rewires::{insert_outcome, remove_outcome, replace_outcome};
 use plain_places::PlainOutcome;
 use stack_rules::Choice;
 use std::alloc::Global;
 
 /// What an event answers and writes after a journal, as the drivers choose.
-pub fn outcome_of(alloc: Global, net: &PlainNet, event: &Event, choice: Choice) -> Result<PlainOutcome, OutOfMemory>
+pub fn outcome_of(
+    alloc: Global,
+    net: &PlainNet,
+    event: &Event,
+    choice: Choice,
+) -> Result<PlainOutcome, OutOfMemory>
     ensures { IfOk result (λ o. o ≡ outcome net.now event.now choice) }
 {
     match event {

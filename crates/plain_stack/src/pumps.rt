@@ -10,16 +10,23 @@ use plain_moves::dones::homeward_rows;
 use plain_moves::receives::up_rows;
 use plain_moves::sends::down_rows;
 use plain_net::PlainNet;
-use plain_oids::requests::{answer_rows, giving_rows, next_giving, PlainGiving};
+use plain_oids::requests::{PlainGiving, answer_rows, giving_rows, next_giving};
 use plain_oids::statuses::status_rows;
 use plain_parts::rows::no_rows;
+use plain_places::PlainOutcome;
 use plain_places::lists::agenda_first;
 use plain_places::outcome::answered;
-use plain_places::PlainOutcome;
 use stack_rules::{LiveList, Stand, Thing};
 use std::alloc::Global;
 
-fn passed_to_module(alloc: Global, net: &PlainNet, l: &LiveList, by: PassWay, m: ModuleId, keeps: bool) -> Result<Vec<Row>, OutOfMemory>
+fn passed_to_module(
+    alloc: Global,
+    net: &PlainNet,
+    l: &LiveList,
+    by: PassWay,
+    m: ModuleId,
+    keeps: bool,
+) -> Result<Vec<Row>, OutOfMemory>
     ensures { IfOk result (λ rows. rows.items ≡ moved_rows net.now l.now (stand.Passed by (Module m)) keeps) }
 {
     match by {
@@ -30,7 +37,13 @@ fn passed_to_module(alloc: Global, net: &PlainNet, l: &LiveList, by: PassWay, m:
     }
 }
 
-fn passed_to_bindings(alloc: Global, net: &PlainNet, l: &LiveList, by: PassWay, keeps: bool) -> Result<Vec<Row>, OutOfMemory>
+fn passed_to_bindings(
+    alloc: Global,
+    net: &PlainNet,
+    l: &LiveList,
+    by: PassWay,
+    keeps: bool,
+) -> Result<Vec<Row>, OutOfMemory>
     ensures { IfOk result (λ rows. rows.items ≡ moved_rows net.now l.now (stand.Passed by Bindings) keeps) }
 {
     match by {
@@ -41,7 +54,14 @@ fn passed_to_bindings(alloc: Global, net: &PlainNet, l: &LiveList, by: PassWay, 
     }
 }
 
-fn passed_rows(alloc: Global, net: &PlainNet, l: &LiveList, by: PassWay, to: Target, keeps: bool) -> Result<Vec<Row>, OutOfMemory>
+fn passed_rows(
+    alloc: Global,
+    net: &PlainNet,
+    l: &LiveList,
+    by: PassWay,
+    to: Target,
+    keeps: bool,
+) -> Result<Vec<Row>, OutOfMemory>
     ensures { IfOk result (λ rows. rows.items ≡ moved_rows net.now l.now (stand.Passed by to) keeps) }
 {
     match to {
@@ -51,7 +71,12 @@ fn passed_rows(alloc: Global, net: &PlainNet, l: &LiveList, by: PassWay, to: Tar
 }
 
 /// A list on its way is worked.
-fn moved_rows(alloc: Global, net: &PlainNet, l: &LiveList, keeps: bool) -> Result<Vec<Row>, OutOfMemory>
+fn moved_rows(
+    alloc: Global,
+    net: &PlainNet,
+    l: &LiveList,
+    keeps: bool,
+) -> Result<Vec<Row>, OutOfMemory>
     ensures { IfOk result (λ rows. rows.items ≡ moved_rows net.now l.now l.now.stand keeps) }
 {
     match l.stand {
@@ -61,7 +86,12 @@ fn moved_rows(alloc: Global, net: &PlainNet, l: &LiveList, keeps: bool) -> Resul
     }
 }
 
-fn thing_rows(alloc: Global, net: &PlainNet, t: &Thing, keeps: bool) -> Result<Vec<Row>, OutOfMemory>
+fn thing_rows(
+    alloc: Global,
+    net: &PlainNet,
+    t: &Thing,
+    keeps: bool,
+) -> Result<Vec<Row>, OutOfMemory>
     ensures { IfOk result (λ rows. rows.items ≡ thing_rows net.now t.now keeps) }
 {
     match t {
@@ -71,7 +101,11 @@ fn thing_rows(alloc: Global, net: &PlainNet, t: &Thing, keeps: bool) -> Result<V
     }
 }
 
-fn request_pump(alloc: Global, net: &PlainNet, g: Option<PlainGiving>) -> Result<PlainOutcome, OutOfMemory>
+fn request_pump(
+    alloc: Global,
+    net: &PlainNet,
+    g: Option<PlainGiving>,
+) -> Result<PlainOutcome, OutOfMemory>
     ensures { IfOk result (λ o. o ≡ request_pump net.now g) }
 {
     match g {
@@ -83,7 +117,12 @@ fn request_pump(alloc: Global, net: &PlainNet, g: Option<PlainGiving>) -> Result
     }
 }
 
-fn pump_of(alloc: Global, net: &PlainNet, keeps: bool, t: Option<&Thing>) -> Result<PlainOutcome, OutOfMemory>
+fn pump_of(
+    alloc: Global,
+    net: &PlainNet,
+    keeps: bool,
+    t: Option<&Thing>,
+) -> Result<PlainOutcome, OutOfMemory>
     ensures { IfOk result (λ o. o ≡ pump_of net.now keeps (option_copied t.entry)) }
 {
     match t {

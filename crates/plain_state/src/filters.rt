@@ -102,7 +102,12 @@ fn is_detached(s: ModuleState) -> bool
 }
 
 /// A filter's state changes; a detached filter is forgotten.
-pub fn filters_after(alloc: Global, f: u64, s: ModuleState, entries: Vec<Attached>) -> Result<Vec<Attached>, OutOfMemory>
+pub fn filters_after(
+    alloc: Global,
+    f: u64,
+    s: ModuleState,
+    entries: Vec<Attached>,
+) -> Result<Vec<Attached>, OutOfMemory>
     ensures { IfOk result (λ after. after.items ≡ filters_after f s entries.items) }
 {
     if is_detached(s) {
@@ -112,7 +117,11 @@ pub fn filters_after(alloc: Global, f: u64, s: ModuleState, entries: Vec<Attache
     }
 }
 
-fn without_filter(alloc: Global, f: u64, entries: Vec<Attached>) -> Result<Vec<Attached>, OutOfMemory>
+fn without_filter(
+    alloc: Global,
+    f: u64,
+    entries: Vec<Attached>,
+) -> Result<Vec<Attached>, OutOfMemory>
     ensures { IfOk result (λ after. after.items ≡ filter (λ a. not (a.filter == f)) entries.items) }
 {
     let mut after = Vec::new(alloc);
@@ -124,7 +133,12 @@ fn without_filter(alloc: Global, f: u64, entries: Vec<Attached>) -> Result<Vec<A
     Ok(after)
 }
 
-fn with_states(alloc: Global, f: u64, s: ModuleState, entries: Vec<Attached>) -> Result<Vec<Attached>, OutOfMemory>
+fn with_states(
+    alloc: Global,
+    f: u64,
+    s: ModuleState,
+    entries: Vec<Attached>,
+) -> Result<Vec<Attached>, OutOfMemory>
     ensures { IfOk result (λ after. after.items ≡ map (with_state f s) entries.items) }
 {
     let mut after = Vec::new(alloc);
@@ -140,12 +154,6 @@ pub fn below(f: u64, order: &[u64]) -> &[u64]
 {
     match order {
         [] => order,
-        [g, others @ ..] => {
-            if *g == f {
-                others
-            } else {
-                below(f, others)
-            }
-        }
+        [g, others @ ..] => { if *g == f { others } else { below(f, others) } }
     }
 }

@@ -5,7 +5,9 @@ ghost use Rattle.stack_rules.specs.Net.{attached, modules_after, has_oid, first_
 ghost use Rattle.stack_rules.specs.Targets.{has_send, has_receive, has_status};
 ghost use Rattle.stack_rules.specs.Cancels.{holds_lists};
 
-use crate::filters::{attached, filters_after, has_oid_pair, hold_in, receive_pair, send_pair, status_handler};
+use crate::filters::{
+    attached, filters_after, has_oid_pair, hold_in, receive_pair, send_pair, status_handler,
+};
 use ndis_base::{ModuleId, ModuleState, OutOfMemory};
 use stack_rules::Attached;
 use std::alloc::Global;

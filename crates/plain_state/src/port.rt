@@ -68,7 +68,9 @@ pub fn filter_in(value: &[u8]) -> u32
 fn sets_filter(r: &Request, status: OidStatus) -> bool
     ensures { result ≡ sets_filter r.now status }
 {
-    matches!(status, OidStatus::Success) && matches!(r.kind, OidKind::Set) && r.code == PACKET_FILTER
+    matches!(status, OidStatus::Success)
+        && matches!(r.kind, OidKind::Set)
+        && r.code == PACKET_FILTER
 }
 
 fn is_given_to_miniport(at: RequestAt) -> bool

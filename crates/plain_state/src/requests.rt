@@ -62,7 +62,12 @@ fn given_to(n: u64, m: ModuleId, r: Request) -> Request
 }
 
 /// The request of a number is given to a module.
-pub fn requests_given(alloc: Global, n: u64, m: ModuleId, requests: Vec<Request>) -> Result<Vec<Request>, OutOfMemory>
+pub fn requests_given(
+    alloc: Global,
+    n: u64,
+    m: ModuleId,
+    requests: Vec<Request>,
+) -> Result<Vec<Request>, OutOfMemory>
     ensures { IfOk result (λ after. after.items ≡ map (given_to n m) requests.items) }
 {
     let mut after = Vec::new(alloc);
@@ -73,7 +78,11 @@ pub fn requests_given(alloc: Global, n: u64, m: ModuleId, requests: Vec<Request>
 }
 
 /// The requests but that of a number.
-pub fn without_request(alloc: Global, n: u64, requests: Vec<Request>) -> Result<Vec<Request>, OutOfMemory>
+pub fn without_request(
+    alloc: Global,
+    n: u64,
+    requests: Vec<Request>,
+) -> Result<Vec<Request>, OutOfMemory>
     ensures { IfOk result (λ after. after.items ≡ filter (λ r. not (r.request.0 == n)) requests.items) }
 {
     let mut after = Vec::new(alloc);

@@ -62,7 +62,12 @@ fn thing_had_by(n: u64, m: ModuleId, t: Thing) -> Thing
 }
 
 /// A module has the list of a number.
-pub fn things_had_by(alloc: Global, n: u64, m: ModuleId, things: Vec<Thing>) -> Result<Vec<Thing>, OutOfMemory>
+pub fn things_had_by(
+    alloc: Global,
+    n: u64,
+    m: ModuleId,
+    things: Vec<Thing>,
+) -> Result<Vec<Thing>, OutOfMemory>
     ensures { IfOk result (λ after. after.items ≡ changed n (had_by m) things.items) }
 {
     let mut after = Vec::new(alloc);
@@ -89,7 +94,12 @@ fn thing_taken_by(n: u64, message: u64, t: Thing) -> Thing
 }
 
 /// The list of a number is taken in a message.
-pub fn things_taken_by(alloc: Global, n: u64, message: u64, things: Vec<Thing>) -> Result<Vec<Thing>, OutOfMemory>
+pub fn things_taken_by(
+    alloc: Global,
+    n: u64,
+    message: u64,
+    things: Vec<Thing>,
+) -> Result<Vec<Thing>, OutOfMemory>
     ensures { IfOk result (λ after. after.items ≡ changed n (taken_by message) things.items) }
 {
     let mut after = Vec::new(alloc);
@@ -99,7 +109,11 @@ pub fn things_taken_by(alloc: Global, n: u64, message: u64, things: Vec<Thing>) 
     Ok(after)
 }
 
-fn kept_by(alloc: Global, m: ModuleId, l: Option<&LiveList>) -> Result<Option<LiveList>, OutOfMemory>
+fn kept_by(
+    alloc: Global,
+    m: ModuleId,
+    l: Option<&LiveList>,
+) -> Result<Option<LiveList>, OutOfMemory>
     ensures { IfOk result (λ moved. moved ≡ kept_by m (option_copied l.entry)) }
 {
     match l {
@@ -113,7 +127,12 @@ fn kept_by(alloc: Global, m: ModuleId, l: Option<&LiveList>) -> Result<Option<Li
     }
 }
 
-fn passed_to(alloc: Global, way: PassWay, to: Target, l: Option<&LiveList>) -> Result<Option<LiveList>, OutOfMemory>
+fn passed_to(
+    alloc: Global,
+    way: PassWay,
+    to: Target,
+    l: Option<&LiveList>,
+) -> Result<Option<LiveList>, OutOfMemory>
     ensures { IfOk result (λ moved. moved ≡ passed_to way to (option_copied l.entry)) }
 {
     match l {
@@ -139,7 +158,12 @@ fn at_end(things: Vec<Thing>, l: Option<LiveList>) -> Result<Vec<Thing>, OutOfMe
 }
 
 /// The list of a number goes to the end, as kept.
-pub fn kept(alloc: Global, n: u64, m: ModuleId, things: Vec<Thing>) -> Result<Vec<Thing>, OutOfMemory>
+pub fn kept(
+    alloc: Global,
+    n: u64,
+    m: ModuleId,
+    things: Vec<Thing>,
+) -> Result<Vec<Thing>, OutOfMemory>
     ensures { IfOk result (λ after. after.items ≡ kept n m things.items) }
 {
     let moved = kept_by(alloc, m, list_of(n, things.as_slice()))?;
@@ -147,7 +171,13 @@ pub fn kept(alloc: Global, n: u64, m: ModuleId, things: Vec<Thing>) -> Result<Ve
 }
 
 /// The list of a number goes to the end, as passed.
-pub fn passed(alloc: Global, n: u64, way: PassWay, to: Target, things: Vec<Thing>) -> Result<Vec<Thing>, OutOfMemory>
+pub fn passed(
+    alloc: Global,
+    n: u64,
+    way: PassWay,
+    to: Target,
+    things: Vec<Thing>,
+) -> Result<Vec<Thing>, OutOfMemory>
     ensures { IfOk result (λ after. after.items ≡ passed n way to things.items) }
 {
     let moved = passed_to(alloc, way, to, list_of(n, things.as_slice()))?;
@@ -187,7 +217,11 @@ fn answers(parent: u64, t: &Thing) -> bool
     }
 }
 
-fn without_answers(alloc: Global, parent: u64, things: Vec<Thing>) -> Result<Vec<Thing>, OutOfMemory>
+fn without_answers(
+    alloc: Global,
+    parent: u64,
+    things: Vec<Thing>,
+) -> Result<Vec<Thing>, OutOfMemory>
     ensures { IfOk result (λ after. after.items ≡ filter (λ t. not (answers parent t)) things.items) }
 {
     let mut after = Vec::new(alloc);
@@ -199,7 +233,13 @@ fn without_answers(alloc: Global, parent: u64, things: Vec<Thing>) -> Result<Vec
     Ok(after)
 }
 
-fn answer_to(parent: Option<OidNo>, request: OidNo, status: OidStatus, value: &OidValue, things: Vec<Thing>) -> Result<Vec<Thing>, OutOfMemory>
+fn answer_to(
+    parent: Option<OidNo>,
+    request: OidNo,
+    status: OidStatus,
+    value: &OidValue,
+    things: Vec<Thing>,
+) -> Result<Vec<Thing>, OutOfMemory>
     ensures { IfOk result (λ after. after.items ≡ answer_to parent request status value.now things.items) }
 {
     let mut after = things;
@@ -216,7 +256,14 @@ fn answer_to(parent: Option<OidNo>, request: OidNo, status: OidStatus, value: &O
 }
 
 /// A request is done: it is its parent's answer, or no more.
-pub fn things_done(alloc: Global, r: &Request, request: OidNo, status: OidStatus, value: &OidValue, things: Vec<Thing>) -> Result<Vec<Thing>, OutOfMemory>
+pub fn things_done(
+    alloc: Global,
+    r: &Request,
+    request: OidNo,
+    status: OidStatus,
+    value: &OidValue,
+    things: Vec<Thing>,
+) -> Result<Vec<Thing>, OutOfMemory>
     ensures { IfOk result (λ after. after.items ≡ things_done (Some r.now) request status value.now things.items) }
 {
     let others = without_answers(alloc, request.0, things)?;

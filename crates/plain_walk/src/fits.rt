@@ -1,34 +1,40 @@
 //! Whether a filter's programs fit its kind.
+use journal_types::Setup;
 use ndis_base::FilterKind;
 use program_types::{Action, Program, Rule, Test};
-use journal_types::Setup;
 
 fn drops_loops(program: &Program) -> bool {
     match program.rules() {
-        [Rule {
-            test: Test::EtherType(n),
-            action: Action::Drop,
-        }] => *n == 35020,
+        [
+            Rule {
+                test: Test::EtherType(n),
+                action: Action::Drop,
+            },
+        ] => *n == 35020,
         _ => false,
     }
 }
 
 fn pushed_tag(program: &Program) -> Option<u16> {
     match program.rules() {
-        [Rule {
-            test: Test::Any,
-            action: Action::Push(control),
-        }] => Some(*control),
+        [
+            Rule {
+                test: Test::Any,
+                action: Action::Push(control),
+            },
+        ] => Some(*control),
         _ => None,
     }
 }
 
 fn popped_vlan(program: &Program) -> Option<u16> {
     match program.rules() {
-        [Rule {
-            test: Test::Vlan(vlan),
-            action: Action::Pop,
-        }] => Some(*vlan),
+        [
+            Rule {
+                test: Test::Vlan(vlan),
+                action: Action::Pop,
+            },
+        ] => Some(*vlan),
         _ => None,
     }
 }

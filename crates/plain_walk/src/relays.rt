@@ -39,7 +39,14 @@ fn status_of(answer: &Answer) -> ListStatus {
     }
 }
 
-fn put_down(upper: &mut WalkedStack, lower: &mut WalkedStack, help: Who, vlan: u16, message: CrossNo, frames: Frames) -> Result<(), OutOfMemory> {
+fn put_down(
+    upper: &mut WalkedStack,
+    lower: &mut WalkedStack,
+    help: Who,
+    vlan: u16,
+    message: CrossNo,
+    frames: Frames,
+) -> Result<(), OutOfMemory> {
     let stack = upper.head().stack;
     let answer = lower.turn(
         help,
@@ -56,7 +63,14 @@ fn put_down(upper: &mut WalkedStack, lower: &mut WalkedStack, help: Who, vlan: u
 }
 
 /// The oldest list of the virtual miniport goes down.
-pub fn relay_down(upper: &mut WalkedStack, lower: &mut WalkedStack, who: Who, help: Who, vlan: u16, pumps: bool) -> Result<(), OutOfMemory> {
+pub fn relay_down(
+    upper: &mut WalkedStack,
+    lower: &mut WalkedStack,
+    who: Who,
+    help: Who,
+    vlan: u16,
+    pumps: bool,
+) -> Result<(), OutOfMemory> {
     if let Answer::Taken { message, frames } = upper.turn(who, Event::CrossTake)? {
         put_down(upper, lower, help, vlan, message, frames)?;
         if pumps {
@@ -68,10 +82,20 @@ pub fn relay_down(upper: &mut WalkedStack, lower: &mut WalkedStack, who: Who, he
 }
 
 /// The oldest message of the VLAN goes up.
-pub fn relay_up(upper: &mut WalkedStack, lower: &mut WalkedStack, who: Who, help: Who, link: Link, pumps: bool) -> Result<(), OutOfMemory> {
+pub fn relay_up(
+    upper: &mut WalkedStack,
+    lower: &mut WalkedStack,
+    who: Who,
+    help: Who,
+    link: Link,
+    pumps: bool,
+) -> Result<(), OutOfMemory> {
     let binding = link.binding;
     let vlan = link.vlan;
-    if let Answer::Taken { message, frames } = lower.turn(who, Event::CrossTakeUp { binding, vlan })? {
+    if let Answer::Taken { message, frames } = lower.turn(
+        who,
+        Event::CrossTakeUp { binding, vlan },
+    )? {
         let stack = lower.head().stack;
         let _ = upper.turn(
             help,

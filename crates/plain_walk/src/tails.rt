@@ -19,7 +19,11 @@ pub fn pump_until_idle(stack: &mut WalkedStack, who: Who) -> Result<(), OutOfMem
 }
 
 /// After waiting one drain; then a step of the pause; again until paused.
-pub fn pause_until_paused(stack: &mut WalkedStack, who: Who, first: Answer) -> Result<(), OutOfMemory> {
+pub fn pause_until_paused(
+    stack: &mut WalkedStack,
+    who: Who,
+    first: Answer,
+) -> Result<(), OutOfMemory> {
     let mut last = first;
     for _ in 0..MOST_TURNS {
         match last {
@@ -35,7 +39,11 @@ pub fn pause_until_paused(stack: &mut WalkedStack, who: Who, first: Answer) -> R
 }
 
 /// Steps of a restart until running.
-pub fn restart_until_running(stack: &mut WalkedStack, who: Who, first: Answer) -> Result<(), OutOfMemory> {
+pub fn restart_until_running(
+    stack: &mut WalkedStack,
+    who: Who,
+    first: Answer,
+) -> Result<(), OutOfMemory> {
     let mut last = first;
     for _ in 0..MOST_TURNS {
         if let Answer::Running = last {
@@ -109,7 +117,13 @@ fn tail_of(event: &Event) -> Tail {
 }
 
 /// A call's event with its tail.
-pub fn call(stack: &mut WalkedStack, who: Who, help: Who, event: Event, pumps: bool) -> Result<(), OutOfMemory> {
+pub fn call(
+    stack: &mut WalkedStack,
+    who: Who,
+    help: Who,
+    event: Event,
+    pumps: bool,
+) -> Result<(), OutOfMemory> {
     let tail = if pumps { tail_of(&event) } else { Tail::None };
     let answer = stack.turn(who, event)?;
     if let Answer::Refused(_) = answer {

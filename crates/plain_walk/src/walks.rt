@@ -1,5 +1,5 @@
 //! The walk of a whole script.
-use crate::relays::{link_of, relay_down, relay_up, Link};
+use crate::relays::{Link, link_of, relay_down, relay_up};
 use crate::script::{Call, PlainScript, StackAt, What};
 use crate::stacks::WalkedStack;
 use crate::tails::{call, end, open};
@@ -19,14 +19,33 @@ fn open_all(alloc: Global, stacks: VecDeque<StackAt>) -> Result<Vec<WalkedStack>
     Ok(walked)
 }
 
-fn relay(stacks: &mut [WalkedStack], at: usize, way: Way, who: Who, help: Who, pumps: bool) -> Result<(), OutOfMemory> {
-    let link = if at < stacks.len() { link_of(&stacks[at]) } else { None };
+fn relay(
+    stacks: &mut [WalkedStack],
+    at: usize,
+    way: Way,
+    who: Who,
+    help: Who,
+    pumps: bool,
+) -> Result<(), OutOfMemory> {
+    let link = if at < stacks.len() {
+        link_of(&stacks[at])
+    } else {
+        None
+    };
     match link {
         None => Ok(()),
         Some(link) => {
             if at < stacks.len() && link.lower < at {
                 let (below, above) = stacks.split_at_mut(at);
-                relay_between(&mut above[0], &mut below[link.lower], link, way, who, help, pumps)
+                relay_between(
+                    &mut above[0],
+                    &mut below[link.lower],
+                    link,
+                    way,
+                    who,
+                    help,
+                    pumps,
+                )
             } else {
                 Ok(())
             }
@@ -34,7 +53,15 @@ fn relay(stacks: &mut [WalkedStack], at: usize, way: Way, who: Who, help: Who, p
     }
 }
 
-fn relay_between(upper: &mut WalkedStack, lower: &mut WalkedStack, link: Link, way: Way, who: Who, help: Who, pumps: bool) -> Result<(), OutOfMemory> {
+fn relay_between(
+    upper: &mut WalkedStack,
+    lower: &mut WalkedStack,
+    link: Link,
+    way: Way,
+    who: Who,
+    help: Who,
+    pumps: bool,
+) -> Result<(), OutOfMemory> {
     match way {
         Way::Down => {
             let vlan = link.vlan;
@@ -69,7 +96,11 @@ fn next_of(lanes: &mut Vec<VecDeque<Call>>, lane: usize) -> Option<Call> {
     }
 }
 
-fn in_order(stacks: &mut Vec<WalkedStack>, lanes: &mut Vec<VecDeque<Call>>, order: &[u8]) -> Result<(), OutOfMemory> {
+fn in_order(
+    stacks: &mut Vec<WalkedStack>,
+    lanes: &mut Vec<VecDeque<Call>>,
+    order: &[u8],
+) -> Result<(), OutOfMemory> {
     for lane in order {
         if let Some(next) = next_of(lanes, *lane as usize) {
             one_call(stacks, *lane as usize, next)?;
@@ -78,7 +109,11 @@ fn in_order(stacks: &mut Vec<WalkedStack>, lanes: &mut Vec<VecDeque<Call>>, orde
     Ok(())
 }
 
-fn rest_of_lane(stacks: &mut Vec<WalkedStack>, lane: usize, calls: VecDeque<Call>) -> Result<(), OutOfMemory> {
+fn rest_of_lane(
+    stacks: &mut Vec<WalkedStack>,
+    lane: usize,
+    calls: VecDeque<Call>,
+) -> Result<(), OutOfMemory> {
     for next in calls {
         one_call(stacks, lane, next)?;
     }
@@ -107,7 +142,11 @@ fn end_all(stacks: &mut Vec<WalkedStack>) -> Result<(), OutOfMemory> {
 
 /// Walks a script, and gives its stacks with their journals, the lowest first. For each lane in the order
 /// the lane's next call is made, a lane without calls left being skipped; then the rest, lane by lane.
-pub fn walk(alloc: Global, script: PlainScript, order: &[u8]) -> Result<Vec<WalkedStack>, OutOfMemory> {
+pub fn walk(
+    alloc: Global,
+    script: PlainScript,
+    order: &[u8],
+) -> Result<Vec<WalkedStack>, OutOfMemory> {
     let PlainScript { stacks, lanes } = script;
     let mut walked = open_all(alloc, stacks)?;
     let mut lanes = lanes;
