@@ -1,9 +1,8 @@
 -- A drain where nothing is on its way.
-use Rattle.std.proofs.Common.{◌≡◌, ℕ, ◌+◌, ◌*◌, ◌<◌, ◌≤◌, false, List, [], ◌∷◌, ◌++◌, None, Some, length, filter, refl, arith, ap, sym, subst, ◌∙◌, sum_by, All}
+use Rattle.std.proofs.Common.{◌≡◌, ℕ, ◌*◌, ◌≤◌, false, List, [], ◌∷◌, ◌++◌, None, Some, length, filter, refl, arith, ap, sym, subst, ◌∙◌, sum_by, All}
 use Rattle.std.proofs.lemmas.List.Sums.{sum_by-cons}
 use Rattle.std.proofs.lemmas.List.Elements.{All-head, All-tail, All-filter}
 use Rattle.ndis_base.specs.declared.ListNo.{ListNo}
-use Rattle.ndis_base.specs.declared.ModuleId.{ModuleId}
 use Rattle.ndis_base.specs.declared.ModuleId.TheVariants.{Miniport}
 use Rattle.ndis_base.specs.declared.ListStatus.TheVariants.{Success}
 use Rattle.ndis_base.specs.declared.Phase.{Phase}
@@ -19,7 +18,6 @@ use Rattle.stack_rules.specs.declared.LiveList.{LiveList}
 use Rattle.stack_rules.specs.declared.Thing.{Thing}
 use Rattle.stack_rules.specs.Net.{Net, lists}
 use Rattle.stack_rules.specs.Places.{agenda_first, kept_lists, is_kept_by}
-use Rattle.stack_rules.specs.Outcome.{answered}
 use Rattle.stack_rules.specs.Sends.{transmitted}
 use Rattle.stack_rules.specs.Drains.{drain_outcome}
 use Rattle.first_form.specs.First.{IsFirst, IsFirstList, PhaseFits}

@@ -1,7 +1,6 @@
 -- A pause and a drain become turns.
-use Rattle.std.proofs.Common.{◌≡◌, true, false, ap, refl, arith}
+use Rattle.std.proofs.Common.{◌≡◌, false, ap, arith}
 use Rattle.journal_types.specs.declared.Asked.{Asked}
-use Rattle.journal_types.specs.declared.Event.{Event}
 use Rattle.journal_types.specs.declared.Event.TheVariants as event
 use Rattle.journal_types.specs.declared.Reply.{Reply}
 use Rattle.journal_types.specs.Sizes.{event_bytes}

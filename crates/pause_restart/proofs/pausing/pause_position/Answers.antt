@@ -1,9 +1,9 @@
 use Rattle.stack_book.proofs.Gives.{first_now}
-use Rattle.std.proofs.Common.{◌≡◌, ◌∙◌, ap, rules}
+use Rattle.std.proofs.Common.{◌∙◌, ap}
 use Rattle.stack_rules.specs.Net.{Net}
 use Rattle.stack_rules.specs.Places.{outstanding}
 use Rattle.stack_rules.specs.Pauses.{first_unpaused}
-use Rattle.pause_restart.proofs.Pauses.{waiting_acts, top_acts, bottom_acts}
+use Rattle.pause_restart.proofs.Pauses.{top_acts}
 use Rattle.pause_restart.proofs.pausing.pause_position.Goals as goal
 
 pub returns-then-position-eq0-clause-acts : goal.returns-then-position-eq0-clause-acts
