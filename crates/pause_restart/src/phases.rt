@@ -1,8 +1,7 @@
 //! Initialising, beginning a pause, restarting and halting.
-ghost use Rattle.std.specs.Prelude.{◌≡◌, OnErr, IfOk};
+ghost use Rattle.std.specs.Prelude.{◌≡◌, false, OnErr, IfOk};
 ghost use Rattle.journal_types.specs.declared.Event.{Event};
 ghost use Rattle.stack_rules.specs.Pauses.{initialize_outcome, begin_outcome, restart_outcome, halt_outcome};
-ghost use Rattle.std.specs.Prelude.{false};
 ghost use Rattle.stack_book.specs.Stands.{Stands, IsReady, Same};
 ghost use Rattle.stack_book.specs.Turns.{Acts, AddsTurn};
 
