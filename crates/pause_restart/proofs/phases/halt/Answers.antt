@@ -1,6 +1,6 @@
 use Rattle.std.proofs.Common.{refl, arith}
 use Rattle.journal_types.specs.declared.Event.TheVariants as event
-use Rattle.pause_restart.proofs.Ends.{answered, next_turn, adds_turn}
+use Rattle.pause_restart.proofs.Endings.{answered, next_turn, adds_turn}
 use Rattle.pause_restart.proofs.phases.halt.Goals as goal
 
 pub finish-requires-clause-next : goal.finish-requires-clause-next
