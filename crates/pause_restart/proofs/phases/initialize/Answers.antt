@@ -1,0 +1,12 @@
+use Rattle.std.proofs.Common.{refl, arith}
+use Rattle.journal_types.specs.declared.Event.TheVariants as event
+use Rattle.pause_restart.proofs.Endings.{answered, next_turn, adds_turn}
+use Rattle.pause_restart.proofs.phases.initialize.Goals as goal
+
+pub finish-requires-clause-next : goal.finish-requires-clause-next
+finish-requires-clause-next g c =
+    next_turn _ (answered _ _ _ _ event.Initialize c.requires.ready c.facts.ensures c.requires.event refl (omega arith) c.in-Ok.ensures.acts) c.again.ensures
+
+pub returns-in-Ok-clause-turn : goal.returns-in-Ok-clause-turn
+returns-in-Ok-clause-turn g c =
+    adds_turn _ _ (answered _ _ _ _ event.Initialize c.requires.ready c.facts.ensures c.requires.event refl (omega arith) c.in-Ok.ensures.acts) c.again.ensures c.finish.ensures.finishes

@@ -1,0 +1,7 @@
+use Rattle.stack_book.proofs.Phases.{first_now}
+use Rattle.pause_restart.proofs.Written.{initialize_acts, phase_read}
+use Rattle.pause_restart.proofs.phases.write_initialize.Goals as goal
+
+pub returns-in-Ok-clause-acts : goal.returns-in-Ok-clause-acts
+returns-in-Ok-clause-acts g c =
+    initialize_acts _ _ (first_now _ _ _ _ c.facts.ensures c.requires.ready.idle) (phase_read _ _ _ _ c.ledger.ensures c.phase-phase.ensures c.in-Halted.is) c.in-Ok.ensures.writes
