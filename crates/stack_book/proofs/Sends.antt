@@ -58,9 +58,9 @@ sent_core_is c c1 c2 c3 c4 c5 binding l pool config to r1 r2 e1 e2 e3 e4 e5 q1 q
     let frames : SpareView = record c.tray.frames { lists = c.tray.frames.lists - 1 } in
     let issue : Row = row.Issue l.label.number l.label.owner config l.label.direction l.label.cancel l.label.origin l.frames in
     e5
-        ∙ ap (λ (x : CoreView). record x { tray = queued x.tray l })
-        (e4 ∙ ap (λ (x : CoreView). record x { tray = written x.tray r2 })
-        (e3 ∙ ap (λ (x : CoreView). record x { tray = written x.tray r1 })
-        (e2 ∙ ap (λ (x : CoreView). record x { tray = record x.tray { frames = record x.tray.frames { lists = x.tray.frames.lists - 1 } } }) e1)))
-        ∙ ap (λ r. sent_by c binding l pool frames r r2) q1
-        ∙ ap (λ r. sent_by c binding l pool frames issue r) q2
+    ∙ ap (λ (x : CoreView). record x { tray = queued x.tray l })
+    (e4 ∙ ap (λ (x : CoreView). record x { tray = written x.tray r2 })
+    (e3 ∙ ap (λ (x : CoreView). record x { tray = written x.tray r1 })
+    (e2 ∙ ap (λ (x : CoreView). record x { tray = record x.tray { frames = record x.tray.frames { lists = x.tray.frames.lists - 1 } } }) e1)))
+    ∙ ap (λ r. sent_by c binding l pool frames r r2) q1
+    ∙ ap (λ r. sent_by c binding l pool frames issue r) q2
