@@ -5,4 +5,4 @@ pub work-requires-clause-stands : goal.work-requires-clause-stands
 work-requires-clause-stands g c = stands_same c.make_room.ensures.same c.requires.stands
 
 pub work-requires-clause-may : goal.work-requires-clause-may
-work-requires-clause-may g c = may_same c.make_room.ensures.same _ c.requires.may
+work-requires-clause-may g c = may_same c.make_room.ensures.same c.args.asked.event c.requires.may
