@@ -1,5 +1,5 @@
 -- Room is made, and then the event is worked.
-use Rattle.std.proofs.Common.{◌↔◌, Bool, ◌≡◌, ◌≢◌, ℕ, ◌≤◌, true, false, List, [], ◌∷◌, ◌++◌, Option, Some, None, Result, Ok, Err, IfOk, OnErr, length, sum_by, refl, sym, ap, ◌∙◌, arith, subst, All}
+use Rattle.std.proofs.Common.{◌↔◌, Bool, ◌≡◌, true, false, [], Option, None, refl, sym, ap, ◌∙◌, arith, subst, All}
 use Rattle.std.proofs.lemmas.List.{append-nil}
 use Rattle.std.specs.Option.{is_some, IsNone}
 use Rattle.ndis_base.specs.declared.Phase.{Phase}
@@ -7,20 +7,17 @@ use Rattle.ndis_base.specs.declared.Phase.TheVariants as phase
 use Rattle.journal_types.specs.declared.Asked.{Asked}
 use Rattle.journal_types.specs.declared.Event.{Event}
 use Rattle.journal_types.specs.declared.Event.TheVariants as event
-use Rattle.journal_types.specs.declared.Reply.{Reply}
 use Rattle.journal_types.specs.declared.Reply.TheVariants as reply
 use Rattle.journal_types.specs.Sizes.{event_bytes}
-use Rattle.stack_rules.specs.declared.Choice.{Choice}
-use Rattle.stack_rules.specs.Net.{Net, seen, after_rows}
-use Rattle.stack_rules.specs.Outcome.{Outcome, answered}
+use Rattle.stack_rules.specs.Net.{Net}
+use Rattle.stack_rules.specs.Outcome.{answered}
 use Rattle.stack_rules.specs.Places.{agenda_first}
 use Rattle.stack_rules.specs.Conditions.{may_ask}
-use Rattle.stack_rules.specs.Sound.{Next, outcome}
+use Rattle.stack_rules.specs.Sound.{outcome}
 use Rattle.first_form.proofs.Rings.{pump_idle}
-use Rattle.stack_core.specs.Core.{Follows, Finishes}
+use Rattle.stack_core.specs.Core.{Follows}
 use Rattle.stack_book.specs.Views.{BookView}
 use Rattle.stack_book.specs.Stands.{Stands, IsReady, Same, Writes, DriversFit, IsClosed}
-use Rattle.stack_book.specs.Turns.{Acts, AddsTurn, asked_turn}
 use Rattle.stack_book.proofs.Gives.{first_now}
 use Rattle.stack_book.proofs.Turns.{Answered}
 
@@ -46,36 +43,6 @@ stands_same {old} {mid} same s = record {
 pub may_same : {old mid : BookView} → Same old mid → (e : Event) → may_ask old.core.head e ≡ true → may_ask mid.core.head e ≡ true
 may_same {old} {mid} same e may = ap (λ h. may_ask h e) same.head ∙ may
 
-pub same_on : {old mid new : BookView} → Same old mid → Same mid new → Same old new
-same_on a b = record {
-  head = b.head ∙ a.head;
-  turns = b.turns ∙ a.turns;
-  net = b.net ∙ a.net;
-  rows = b.rows ∙ a.rows;
-  queue = b.queue ∙ a.queue;
-  pools = b.pools ∙ a.pools;
-  miniport = b.miniport ∙ a.miniport;
-  protocols = b.protocols ∙ a.protocols;
-}
-
--- what adds a turn to it adds the turn to the book before
-pub adds_before : {old mid new : BookView} {asked : Asked} {r : Reply} → Same old mid → AddsTurn mid new asked r → AddsTurn old new asked r
-adds_before {old} {mid} {new} {asked} {r} same a = record {
-  rows = a.rows;
-  next = rw (same.head, same.turns) at a.next;
-  turns = a.turns ∙ ap (λ ts. ts ++ asked_turn asked r a.rows ∷ []) same.turns;
-  head = a.head ∙ same.head;
-  idle = a.idle;
-}
-
-pub turn_before : {E : Type 0} (old mid new : BookView) (asked : Asked) (result : Result Reply E) → Same old mid → IfOk result (λ r. AddsTurn mid new asked r) → IfOk result (λ r. AddsTurn old new asked r)
-turn_before old mid new asked (Ok r) same a = adds_before same a
-turn_before old mid new asked (Err e) same a = tt
-
-pub same_before : {T E : Type 0} (old mid new : BookView) (result : Result T E) → Same old mid → OnErr result (Same mid new) → OnErr result (Same old new)
-same_before old mid new (Ok r) same s = tt
-same_before old mid new (Err e) same s = same_on same s
-
 -- nothing was written
 nothing : (b : BookView) → Writes b b []
 nothing b = record {
@@ -98,7 +65,7 @@ idle_answered b asked ready f is none = record {
   may = ap (may_ask b.core.head) is;
   few = omega (arith, ap event_bytes is);
   is = ap (λ e. outcome b.core.tray.net e (record { keeps = false; refuses = false; shelf_empty = false })) is
-    ∙ pump_idle b.core.tray.net false (first_now _ _ _ _ f ready.idle) none;
+      ∙ pump_idle b.core.tray.net false (first_now _ _ _ _ f ready.idle) none;
   acts = record { answer_is = refl; plain = tt; writes = nothing b; few = omega arith; bytes = omega arith };
 }
 

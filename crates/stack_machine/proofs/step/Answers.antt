@@ -1,4 +1,4 @@
-use Rattle.stack_machine.proofs.Steps.{stands_same, may_same, turn_before, same_before}
+use Rattle.stack_machine.proofs.Steps.{stands_same, may_same}
 use Rattle.stack_machine.proofs.step.Goals as goal
 
 pub work-requires-clause-stands : goal.work-requires-clause-stands
