@@ -1,7 +1,10 @@
 //! One step of a stack: room first, then the event.
 #![tactic(auto)]
 
-ghost use Rattle.std.specs.Prelude.{◌≡◌, [], true, IfOk, OnErr};
+ghost use Rattle.std.specs.Prelude.{◌≡◌, ◌≢◌, [], true, IfOk, OnErr};
+ghost use Rattle.journal_types.specs.declared.Event.{Event};
+ghost use Rattle.journal_types.specs.declared.Reply.{Reply};
+ghost use Rattle.journal_types.specs.declared.Refusal.{Refusal};
 ghost use Rattle.stack_rules.specs.Conditions.{may_ask};
 ghost use Rattle.first_form.specs.First.{IsFirstEvent};
 ghost use Rattle.stack_book.specs.Stands.{Stands, IsReady, Same};
@@ -25,8 +28,23 @@ pub fn step(book: &mut Book, alloc: Global, asked: Asked) -> Result<Reply, OutOf
     ensures stands { Stands (⟦<Book as Shown>⟧.shown book.new) }
     ensures turn { IfOk result (λ r. AddsTurn (⟦<Book as Shown>⟧.shown book.old) (⟦<Book as Shown>⟧.shown book.new) asked r) }
     ensures same { OnErr result (Same (⟦<Book as Shown>⟧.shown book.old) (⟦<Book as Shown>⟧.shown book.new)) }
+    ensures accepted { IfOk result (λ r. asked.event ≡ Event.Initialize → r ≢ Reply.Refused (Refusal.InitRefused)) }
 {
     book.make_room()?;
+    work(book, alloc, asked)
+}
+
+/// Works an event where there is room for it.
+fn work(book: &mut Book, alloc: Global, asked: Asked) -> Result<Reply, OutOfMemory>
+    requires stands { Stands (⟦<Book as Shown>⟧.shown book.old) }
+    requires ready { IsReady (⟦<Book as Shown>⟧.shown book.old) }
+    requires event { IsFirstEvent asked.event }
+    requires may { may_ask (⟦<Book as Shown>⟧.shown book.old).core.head asked.event ≡ true }
+    ensures stands { Stands (⟦<Book as Shown>⟧.shown book.new) }
+    ensures turn { IfOk result (λ r. AddsTurn (⟦<Book as Shown>⟧.shown book.old) (⟦<Book as Shown>⟧.shown book.new) asked r) }
+    ensures same { OnErr result (Same (⟦<Book as Shown>⟧.shown book.old) (⟦<Book as Shown>⟧.shown book.new)) }
+    ensures accepted { IfOk result (λ r. asked.event ≡ Event.Initialize → r ≢ Reply.Refused (Refusal.InitRefused)) }
+{
     match asked.event {
         Event::Initialize => initialize(book, alloc, asked),
         Event::Send { .. } => Ok(send(book, asked)),
@@ -49,6 +67,7 @@ fn pump(book: &mut Book, asked: Asked) -> Reply
     ensures stands { Stands (⟦<Book as Shown>⟧.shown book.new) }
     ensures turn { AddsTurn (⟦<Book as Shown>⟧.shown book.old) (⟦<Book as Shown>⟧.shown book.new) asked result }
 {
+    book.facts();
     if book.ledger().first_away().is_some() {
         return pump_send(book, asked);
     }

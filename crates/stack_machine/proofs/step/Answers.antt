@@ -1,0 +1,8 @@
+use Rattle.stack_machine.proofs.Steps.{stands_same, may_same}
+use Rattle.stack_machine.proofs.step.Goals as goal
+
+pub work-requires-clause-stands : goal.work-requires-clause-stands
+work-requires-clause-stands g c = stands_same c.make_room.ensures.same c.requires.stands
+
+pub work-requires-clause-may : goal.work-requires-clause-may
+work-requires-clause-may g c = may_same c.make_room.ensures.same c.args.asked.event c.requires.may
