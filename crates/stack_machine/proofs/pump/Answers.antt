@@ -2,9 +2,6 @@ use Rattle.stack_book.proofs.Turns.{finish_next, adds}
 use Rattle.stack_machine.proofs.Steps.{idle_answered, still_from}
 use Rattle.stack_machine.proofs.pump.Goals as goal
 
-pub pump_send-requires-clause-stub : goal.pump_send-requires-clause-stub
-pump_send-requires-clause-stub g c = ?
-
 pub finish-requires-clause-next : goal.finish-requires-clause-next
 finish-requires-clause-next g c =
     rw c.again.ensures
