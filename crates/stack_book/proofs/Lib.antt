@@ -8,3 +8,4 @@ pub mod Wired
 pub mod Homes
 pub mod Phases
 pub mod Ready
+pub mod Turns
