@@ -1,5 +1,5 @@
 -- What the events of this crate write is what the rules say.
-use Rattle.std.proofs.Common.{◌≡◌, ℕ, ◌+◌, ◌<◌, ◌≤◌, ◌==◌, Bool, true, false, not, List, [], ◌∷◌, ◌++◌, Option, Some, None, IfSome, length, map, sum_by, find, refl, sym, ap, ◌∙◌, cond, subst, arith, All}
+use Rattle.std.proofs.Common.{◌≡◌, ℕ, ◌+◌, ◌<◌, ◌≤◌, ◌==◌, Bool, true, false, not, List, [], ◌∷◌, ◌++◌, Option, Some, None, IfSome, ◌⊎◌, inl, inr, length, map, sum_by, find, refl, sym, ap, ◌∙◌, cond, subst, arith, All}
 use Rattle.std.proofs.lemmas.List.Elements.{All-head, All-tail}
 use Rattle.ndis_base.specs.declared.ListNo.{ListNo}
 use Rattle.ndis_base.specs.declared.ListStatus.{ListStatus}
@@ -48,6 +48,7 @@ use Rattle.stack_book.specs.Views.{BookView}
 use Rattle.stack_book.specs.Stands.{Stands, IsReady, IsShort, DriversFit, Writes}
 use Rattle.stack_book.specs.Events.{FirstIs}
 use Rattle.stack_book.specs.Turns.{Acts, IsShortReply}
+use Rattle.stack_book.proofs.Gives.{first_now}
 use Rattle.stack_book.proofs.Turns.{fits_bytes}
 
 -- there are few rows, of few bytes
@@ -249,3 +250,24 @@ port_at b phase.Paused d not_halted = d
 port_at b phase.Restarting d not_halted = d
 port_at b phase.Running d not_halted = d
 port_at b phase.Pausing d not_halted = d
+
+-- what a pump has to know of the first list on its way
+pub is_away_of : (net n : Net) (r : Option AwayList) (a : AwayList) → IfSome r (IsAway n) → r ≡ Some a → n ≡ net → IsAway net a
+is_away_of net n None a h e s = cc
+is_away_of net n (Some x) a h e s =
+    let same : x ≡ a = cc in
+    let here : IsAway n a = subst (IsAway n) same h in
+    subst (λ m. IsAway m a) s here
+
+pub down_here : {b : BookView} (n : Net) (r : Option AwayList) (a : AwayList) → IsReady b → Follows b.core.head b.core.turns b.core.tray.net b.core.tray.rows → IfSome r (IsAway n) → r ≡ Some a → n ≡ b.core.tray.net
+    → a.way ≡ way.Down → FirstIs b (stand.Passed way.Down (Module Miniport))
+down_here {b} n r a ready follows h e s w = first_down b a (is_away_of b.core.tray.net n r a h e s) (first_now _ _ _ _ follows ready.idle) follows.head_is w
+
+pub done_here : {b : BookView} (n : Net) (r : Option AwayList) (a : AwayList) (status : ListStatus) → IsReady b → Follows b.core.head b.core.turns b.core.tray.net b.core.tray.rows → IfSome r (IsAway n) → r ≡ Some a → n ≡ b.core.tray.net
+    → a.way ≡ way.Done status → FirstIs b (done_to status a.owner)
+done_here {b} n r a status ready follows h e s w = first_done b a status (is_away_of b.core.tray.net n r a h e s) (first_now _ _ _ _ follows ready.idle) follows.head_is w
+
+pub none_here : {b : BookView} (n : Net) (r : Option AwayList) (a : AwayList) → IsReady b → Follows b.core.head b.core.turns b.core.tray.net b.core.tray.rows → IfSome r (IsAway n) → r ≡ Some a → n ≡ b.core.tray.net
+    → (a.way ≡ way.Up) ⊎ ((status : ListStatus) × (a.way ≡ way.Back status)) → ⊥
+none_here {b} n r a ready follows h e s (inl w) = not_up b a (is_away_of b.core.tray.net n r a h e s) (first_now _ _ _ _ follows ready.idle) w
+none_here {b} n r a ready follows h e s (inr w) = not_back b a w.0 (is_away_of b.core.tray.net n r a h e s) (first_now _ _ _ _ follows ready.idle) w.1

@@ -1,0 +1,80 @@
+-- What was written becomes a turn.
+use Rattle.std.proofs.Common.{◌≡◌, ℕ, ◌≤◌, false, true, List, Option, Some, refl, sym, ap, ◌∙◌, arith, subst}
+use Rattle.journal_types.specs.declared.Asked.{Asked}
+use Rattle.journal_types.specs.declared.Event.{Event}
+use Rattle.journal_types.specs.declared.Event.TheVariants as event
+use Rattle.journal_types.specs.declared.Reply.{Reply}
+use Rattle.journal_types.specs.declared.StackHead.{StackHead}
+use Rattle.journal_types.specs.Sizes.{event_bytes}
+use Rattle.stack_rules.specs.declared.Choice.{Choice}
+use Rattle.stack_rules.specs.declared.Thing.{Thing}
+use Rattle.stack_rules.specs.declared.Thing.TheVariants as thing
+use Rattle.stack_rules.specs.Net.{Net}
+use Rattle.stack_rules.specs.Sound.{outcome}
+use Rattle.stack_rules.specs.Conditions.{may_ask}
+use Rattle.stack_rules.specs.Places.{agenda_first}
+use Rattle.stack_rules.specs.Sends.{send_outcome, transmit_outcome}
+use Rattle.stack_rules.specs.Pumps.{pump_outcome}
+use Rattle.first_form.proofs.Rings.{pump_works, drain_pumps}
+use Rattle.stack_core.specs.Core.{Follows}
+use Rattle.stack_book.specs.Views.{BookView}
+use Rattle.stack_book.specs.Stands.{IsReady}
+use Rattle.stack_book.specs.Turns.{Acts}
+use Rattle.stack_book.proofs.Turns.{Answered}
+use Rattle.send_path.specs.Asks.{AsksSend, AsksTransmit, AsksPump, HasAway}
+
+abbrev plain_choice : Choice
+plain_choice = record { keeps = false; refuses = false; shelf_empty = false }
+
+-- a pump
+pump_may : (head : StackHead) (e : Event) → AsksPump e → may_ask head e ≡ true
+pump_may head event.Pump f = refl
+pump_may head event.Drain f = refl
+pump_may head _ f = absurd f
+
+pump_few : (e : Event) → AsksPump e → event_bytes e ≤ 20000
+pump_few event.Pump f = omega arith
+pump_few event.Drain f = omega arith
+pump_few _ f = absurd f
+
+pump_is : (net : Net) (e : Event) (t : Thing) → AsksPump e → agenda_first net ≡ Some t → outcome net e plain_choice ≡ pump_outcome net false
+pump_is net event.Pump t f some = refl
+pump_is net event.Drain t f some = drain_pumps net false t some ∙ sym (pump_works net false t some)
+pump_is net _ t f some = absurd f
+
+pub pump_answered : (old now : BookView) (asked : Asked) (answer : Reply) → HasAway old → AsksPump asked.event → IsReady old → Follows old.core.head old.core.turns old.core.tray.net old.core.tray.rows
+    → Acts old now (pump_outcome old.core.tray.net false) answer → Answered old now asked answer (pump_outcome old.core.tray.net false)
+pump_answered old now asked answer away e ready follows acts = record {
+  choice = plain_choice;
+  ready = ready;
+  follows = follows;
+  may = pump_may old.core.head asked.event e;
+  few = pump_few asked.event e;
+  is = pump_is old.core.tray.net asked.event (thing.List away.list) e away.first;
+  acts = acts;
+}
+
+-- a transmit
+transmit_may : (head : StackHead) (e : Event) → AsksTransmit e → may_ask head e ≡ true
+transmit_may head event.Transmit f = refl
+transmit_may head _ f = absurd f
+
+transmit_few : (e : Event) → AsksTransmit e → event_bytes e ≤ 20000
+transmit_few event.Transmit f = omega arith
+transmit_few _ f = absurd f
+
+transmit_is : (net : Net) (e : Event) → AsksTransmit e → outcome net e plain_choice ≡ transmit_outcome net
+transmit_is net event.Transmit f = refl
+transmit_is net _ f = absurd f
+
+pub transmit_answered : (old now : BookView) (asked : Asked) (answer : Reply) → AsksTransmit asked.event → IsReady old → Follows old.core.head old.core.turns old.core.tray.net old.core.tray.rows
+    → Acts old now (transmit_outcome old.core.tray.net) answer → Answered old now asked answer (transmit_outcome old.core.tray.net)
+transmit_answered old now asked answer e ready follows acts = record {
+  choice = plain_choice;
+  ready = ready;
+  follows = follows;
+  may = transmit_may old.core.head asked.event e;
+  few = transmit_few asked.event e;
+  is = transmit_is old.core.tray.net asked.event e;
+  acts = acts;
+}
