@@ -1,17 +1,21 @@
 -- What was written becomes a turn.
-use Rattle.std.proofs.Common.{◌≡◌, ℕ, ◌≤◌, false, true, List, Option, Some, refl, sym, ap, ◌∙◌, arith, subst}
+use Rattle.std.proofs.Common.{◌≡◌, ℕ, ◌≤◌, ◌<◌, ◌&&◌, Bool, false, true, List, [], ◌∷◌, length, All, Option, Some, refl, sym, ap, ◌∙◌, arith, subst}
+use Rattle.std.proofs.lemmas.Bool.Decides.{nat_tests}
+use Rattle.std.proofs.lemmas.List.Elements.{All-cons, All-nil}
+use Rattle.std.specs.List.{list_all}
 use Rattle.journal_types.specs.declared.Asked.{Asked}
 use Rattle.journal_types.specs.declared.Event.{Event}
 use Rattle.journal_types.specs.declared.Event.TheVariants as event
 use Rattle.journal_types.specs.declared.Reply.{Reply}
 use Rattle.journal_types.specs.declared.StackHead.{StackHead}
 use Rattle.journal_types.specs.Sizes.{event_bytes}
+use Rattle.buffer_pools.specs.Views.{Fits}
 use Rattle.stack_rules.specs.declared.Choice.{Choice}
 use Rattle.stack_rules.specs.declared.Thing.{Thing}
 use Rattle.stack_rules.specs.declared.Thing.TheVariants as thing
 use Rattle.stack_rules.specs.Net.{Net}
 use Rattle.stack_rules.specs.Sound.{outcome}
-use Rattle.stack_rules.specs.Conditions.{may_ask}
+use Rattle.stack_rules.specs.Conditions.{may_ask, is_between, is_frame, are_frames, is_cancel, has_binding}
 use Rattle.stack_rules.specs.Places.{agenda_first}
 use Rattle.stack_rules.specs.Sends.{send_outcome, transmit_outcome}
 use Rattle.stack_rules.specs.Pumps.{pump_outcome}
@@ -20,8 +24,8 @@ use Rattle.stack_core.specs.Core.{Follows}
 use Rattle.stack_book.specs.Views.{BookView}
 use Rattle.stack_book.specs.Stands.{IsReady}
 use Rattle.stack_book.specs.Turns.{Acts}
-use Rattle.stack_book.proofs.Turns.{Answered}
-use Rattle.send_path.specs.Asks.{AsksSend, AsksTransmit, AsksPump, HasAway}
+use Rattle.stack_book.proofs.Turns.{Answered, fits_bytes}
+use Rattle.send_path.specs.Asks.{AsksSend, AsksTransmit, AsksPump, MaySend, HasAway}
 
 abbrev plain_choice : Choice
 plain_choice = record { keeps = false; refuses = false; shelf_empty = false }
@@ -76,5 +80,64 @@ transmit_answered old now asked answer e ready follows acts = record {
   may = transmit_may old.core.head asked.event e;
   few = transmit_few asked.event e;
   is = transmit_is old.core.tray.net asked.event e;
+  acts = acts;
+}
+
+-- a send
+both : (a b : Bool) → (a && b) ≡ true → (a ≡ true) × (b ≡ true)
+both true b e = (refl, e)
+both false b e = cc
+
+frame_short : (head : StackHead) (f : List ℕ) → is_frame head f ≡ true → length f ≤ 1518
+frame_short head f e = grind (arith, nat_tests)
+
+frames_short : (head : StackHead) (frames : List (List ℕ)) → list_all (is_frame head) frames ≡ true → All (λ f. length f ≤ 1518) frames
+frames_short head [] e = All-nil (λ f. length f ≤ 1518)
+frames_short head (f ∷ fs) e =
+    let h = both (is_frame head f) (list_all (is_frame head) fs) e in
+    All-cons (λ f. length f ≤ 1518) f fs (frame_short head f h.0) (frames_short head fs h.1)
+
+count_low : (n : ℕ) → is_between 1 8 n ≡ true → 0 < n
+count_low n e = grind (arith, nat_tests)
+
+count_high : (n : ℕ) → is_between 1 8 n ≡ true → n ≤ 8
+count_high n e = grind (arith, nat_tests)
+
+pub frames_fit : (head : StackHead) (frames : List (List ℕ)) → are_frames head frames ≡ true → Fits frames 1518
+frames_fit head frames e =
+    let h = both (is_between 1 8 (length frames)) (list_all (is_frame head) frames) e in
+    record { some = count_low (length frames) h.0; few = count_high (length frames) h.0; short = frames_short head frames h.1 }
+
+pub frames_of : (head : StackHead) (binding : ℕ) (cancel : Option ℕ) (frames : List (List ℕ)) → may_ask head (event.Send binding cancel frames) ≡ true → Fits frames 1518
+frames_of head binding cancel frames may =
+    frames_fit head frames (both (is_cancel cancel) (are_frames head frames) (both (has_binding head binding) (is_cancel cancel && are_frames head frames) may).1).1
+
+send_within : (head : StackHead) (b : ℕ) → has_binding head b ≡ true → b < length head.bindings
+send_within head b e = grind (arith, nat_tests)
+
+-- what a send asks for
+pub may_send : (b : BookView) (e : Event) (binding : ℕ) (cancel : Option ℕ) (frames : List (List ℕ)) → may_ask b.core.head e ≡ true → e ≡ event.Send binding cancel frames → MaySend b binding frames
+may_send b e binding cancel frames may is =
+    let asked : may_ask b.core.head (event.Send binding cancel frames) ≡ true = sym (ap (may_ask b.core.head) is) ∙ may in
+    record {
+      within = send_within b.core.head binding (both (has_binding b.core.head binding) (is_cancel cancel && are_frames b.core.head frames) asked).0;
+      fits = frames_of b.core.head binding cancel frames asked;
+    }
+
+send_few : (head : StackHead) (e : Event) (binding : ℕ) (cancel : Option ℕ) (frames : List (List ℕ)) → e ≡ event.Send binding cancel frames → may_ask head e ≡ true → event_bytes e ≤ 20000
+send_few head e binding cancel frames is may =
+    let low : event_bytes e ≤ 12144 = subst (λ x. event_bytes x ≤ 12144) (sym is) (fits_bytes frames (frames_of head binding cancel frames (sym (ap (may_ask head) is) ∙ may))) in
+    omega (arith, low)
+
+pub send_answered : (old now : BookView) (asked : Asked) (answer : Reply) (binding : ℕ) (cancel : Option ℕ) (frames : List (List ℕ)) → may_ask old.core.head asked.event ≡ true → asked.event ≡ event.Send binding cancel frames
+    → IsReady old → Follows old.core.head old.core.turns old.core.tray.net old.core.tray.rows
+    → Acts old now (send_outcome old.core.tray.net binding cancel frames) answer → Answered old now asked answer (send_outcome old.core.tray.net binding cancel frames)
+send_answered old now asked answer binding cancel frames may is ready follows acts = record {
+  choice = plain_choice;
+  ready = ready;
+  follows = follows;
+  may = may;
+  few = send_few old.core.head asked.event binding cancel frames is may;
+  is = ap (λ e. outcome old.core.tray.net e plain_choice) is;
   acts = acts;
 }
