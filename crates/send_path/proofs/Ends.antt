@@ -25,7 +25,7 @@ use Rattle.stack_book.specs.Views.{BookView}
 use Rattle.stack_book.specs.Stands.{IsReady}
 use Rattle.stack_book.specs.Turns.{Acts}
 use Rattle.stack_book.proofs.Turns.{Answered, fits_bytes}
-use Rattle.send_path.specs.Asks.{AsksSend, AsksTransmit, AsksPump, MaySend, HasAway}
+use Rattle.send_path.specs.Asks.{AsksSend, AsksTransmit, AsksPump, HasAway}
 
 abbrev plain_choice : Choice
 plain_choice = record { keeps = false; refuses = false; shelf_empty = false }
@@ -103,26 +103,14 @@ count_low n e = grind (arith, nat_tests)
 count_high : (n : ℕ) → is_between 1 8 n ≡ true → n ≤ 8
 count_high n e = grind (arith, nat_tests)
 
-pub frames_fit : (head : StackHead) (frames : List (List ℕ)) → are_frames head frames ≡ true → Fits frames 1518
+frames_fit : (head : StackHead) (frames : List (List ℕ)) → are_frames head frames ≡ true → Fits frames 1518
 frames_fit head frames e =
     let h = both (is_between 1 8 (length frames)) (list_all (is_frame head) frames) e in
     record { some = count_low (length frames) h.0; few = count_high (length frames) h.0; short = frames_short head frames h.1 }
 
-pub frames_of : (head : StackHead) (binding : ℕ) (cancel : Option ℕ) (frames : List (List ℕ)) → may_ask head (event.Send binding cancel frames) ≡ true → Fits frames 1518
+frames_of : (head : StackHead) (binding : ℕ) (cancel : Option ℕ) (frames : List (List ℕ)) → may_ask head (event.Send binding cancel frames) ≡ true → Fits frames 1518
 frames_of head binding cancel frames may =
     frames_fit head frames (both (is_cancel cancel) (are_frames head frames) (both (has_binding head binding) (is_cancel cancel && are_frames head frames) may).1).1
-
-send_within : (head : StackHead) (b : ℕ) → has_binding head b ≡ true → b < length head.bindings
-send_within head b e = grind (arith, nat_tests)
-
--- what a send asks for
-pub may_send : (b : BookView) (e : Event) (binding : ℕ) (cancel : Option ℕ) (frames : List (List ℕ)) → may_ask b.core.head e ≡ true → e ≡ event.Send binding cancel frames → MaySend b binding frames
-may_send b e binding cancel frames may is =
-    let asked : may_ask b.core.head (event.Send binding cancel frames) ≡ true = sym (ap (may_ask b.core.head) is) ∙ may in
-    record {
-      within = send_within b.core.head binding (both (has_binding b.core.head binding) (is_cancel cancel && are_frames b.core.head frames) asked).0;
-      fits = frames_of b.core.head binding cancel frames asked;
-    }
 
 send_few : (head : StackHead) (e : Event) (binding : ℕ) (cancel : Option ℕ) (frames : List (List ℕ)) → e ≡ event.Send binding cancel frames → may_ask head e ≡ true → event_bytes e ≤ 20000
 send_few head e binding cancel frames is may =
