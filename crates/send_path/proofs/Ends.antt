@@ -25,7 +25,7 @@ use Rattle.stack_book.specs.Views.{BookView}
 use Rattle.stack_book.specs.Stands.{IsReady}
 use Rattle.stack_book.specs.Turns.{Acts}
 use Rattle.stack_book.proofs.Turns.{Answered, fits_bytes}
-use Rattle.send_path.specs.Asks.{AsksSend, AsksTransmit, AsksPump, HasAway}
+use Rattle.send_path.specs.Asks.{AsksTransmit, AsksPump, HasAway}
 
 abbrev plain_choice : Choice
 plain_choice = record { keeps = false; refuses = false; shelf_empty = false }

@@ -1,51 +1,45 @@
 -- What the events of this crate write is what the rules say.
-use Rattle.std.proofs.Common.{◌≡◌, ℕ, ◌+◌, ◌<◌, ◌≤◌, ◌==◌, Bool, true, false, not, List, [], ◌∷◌, ◌++◌, Option, Some, None, IfSome, ◌⊎◌, inl, inr, length, map, sum_by, find, refl, sym, ap, ◌∙◌, cond, subst, arith, All}
-use Rattle.std.proofs.lemmas.List.Elements.{All-head, All-tail}
+use Rattle.std.proofs.Common.{◌≡◌, ℕ, ◌+◌, ◌≤◌, Bool, true, false, not, List, [], ◌∷◌, Option, Some, None, IfSome, ◌⊎◌, inl, inr, length, map, sum_by, refl, sym, ap, ◌∙◌, subst, arith, All}
+use Rattle.std.proofs.lemmas.List.Elements.{All-head}
 use Rattle.ndis_base.specs.declared.ListNo.{ListNo}
 use Rattle.ndis_base.specs.declared.ListStatus.{ListStatus}
-use Rattle.ndis_base.specs.declared.ListStatus.TheVariants.{Success, Resources}
 use Rattle.ndis_base.specs.declared.ModuleId.{ModuleId}
 use Rattle.ndis_base.specs.declared.ModuleId.TheVariants.{Miniport, Filter, Binding}
-use Rattle.ndis_base.specs.declared.Phase.{Phase}
 use Rattle.ndis_base.specs.declared.Phase.TheVariants as phase
 use Rattle.journal_types.specs.declared.PassWay.{PassWay}
 use Rattle.journal_types.specs.declared.PassWay.TheVariants as way
 use Rattle.journal_types.specs.declared.Target.{Target}
 use Rattle.journal_types.specs.declared.Target.TheVariants.{Module, Bindings}
-use Rattle.journal_types.specs.declared.Handler.TheVariants as handler
 use Rattle.journal_types.specs.declared.StackHead.{StackHead}
 use Rattle.journal_types.specs.declared.Reply.{Reply}
 use Rattle.journal_types.specs.declared.Reply.TheVariants as reply
 use Rattle.journal_types.specs.declared.Row.{Row}
 use Rattle.journal_types.specs.declared.Row.TheVariants as row
 use Rattle.journal_types.specs.Sizes.{row_bytes, frames_bytes}
-use Rattle.buffer_pools.specs.Views.{ListView, PoolView, Fits}
+use Rattle.buffer_pools.specs.Views.{ListView, Fits}
 use Rattle.stack_rules.specs.declared.LiveList.{LiveList}
 use Rattle.stack_rules.specs.declared.Stand.{Stand}
 use Rattle.stack_rules.specs.declared.Stand.TheVariants as stand
-use Rattle.stack_rules.specs.declared.Thing.{Thing}
 use Rattle.stack_rules.specs.declared.Thing.TheVariants as thing
-use Rattle.stack_rules.specs.Net.{Net, lists}
-use Rattle.stack_rules.specs.Tests.{phase_is_running}
+use Rattle.stack_rules.specs.Net.{Net}
 use Rattle.stack_rules.specs.Places.{agenda_first, is_full, kept_lists}
-use Rattle.stack_rules.specs.Outcome.{Outcome, answered, list_no}
+use Rattle.stack_rules.specs.Outcome.{Outcome, list_no}
 use Rattle.stack_rules.specs.Sends.{sent, send_outcome, transmitted, transmit_outcome, miniport_rows, ring_is_full}
 use Rattle.stack_rules.specs.Dones.{home_rows, homeward_rows, released}
 use Rattle.stack_rules.specs.Pumps.{pump_outcome, moved_rows}
-use Rattle.first_form.specs.First.{IsFirst, IsFirstList, IsFirstStand, PhaseFits}
+use Rattle.first_form.specs.First.{IsFirst, IsFirstList, IsFirstStand}
 use Rattle.first_form.proofs.Fronts.{IsNextKept, next_kept}
-use Rattle.first_form.proofs.Kept.{fits_at}
 use Rattle.first_form.proofs.Lists.{IsFirstAway, first_away, IsFound, found_fits}
 use Rattle.first_form.proofs.Moves.{fit_of, home_is, transmitted_is}
 use Rattle.first_form.proofs.Outcomes.{miniport_keeps, miniport_turns_back}
-use Rattle.first_form.proofs.Rings.{pump_works, transmit_idle, transmit_wires}
+use Rattle.first_form.proofs.Rings.{pump_works, transmit_wires}
 use Rattle.held_lists.specs.Held.{Common, in_hand, in_state}
 use Rattle.held_lists.proofs.Splits.{all_right}
 use Rattle.own_ledger.specs.declared.AwayList.{AwayList}
 use Rattle.own_ledger.specs.Away.{IsAway}
 use Rattle.stack_core.specs.Core.{Follows}
 use Rattle.stack_book.specs.Views.{BookView}
-use Rattle.stack_book.specs.Stands.{Stands, IsReady, IsShort, DriversFit, Writes}
+use Rattle.stack_book.specs.Stands.{Stands, IsReady, IsShort, Writes}
 use Rattle.stack_book.specs.Events.{FirstIs}
 use Rattle.stack_book.specs.Turns.{Acts, IsShortReply}
 use Rattle.stack_book.proofs.Gives.{first_now}
@@ -119,19 +113,6 @@ wired_acts old new n w first stands =
     (subst AreSmall (sym (transmitted_is old.core.tray.net w.list first next.first)) (wired_small w.list _ _ (kept_fits old w.list w.rest stands w.kept)))
     w.writes
 
-no_rows : AreSmall []
-no_rows = record { few = omega arith; bytes = omega arith }
-
-pub idle_acts : (old new : BookView) → IsFirst old.core.tray.net → kept_lists old.core.tray.net Miniport ≡ [] → Writes old new [] → Acts old new (transmit_outcome old.core.tray.net) reply.Idle
-idle_acts old new first none w = acts_by old new (transmit_outcome old.core.tray.net) reply.Idle [] (transmit_idle old.core.tray.net first none) tt no_rows w
-
--- in the phase Halted the miniport keeps nothing
-nothing_kept : (net : Net) → net.things ≡ [] → kept_lists net Miniport ≡ []
-nothing_kept net none = ap (λ ts. kept_lists (record net { things = ts }) Miniport) none
-
-pub halted_acts : (b : BookView) → IsFirst b.core.tray.net → IsReady b → b.core.tray.net.phase ≡ phase.Halted → Writes b b [] → Acts b b (transmit_outcome b.core.tray.net) reply.Idle
-halted_acts b first ready halted w = idle_acts b b first (nothing_kept b.core.tray.net (fits_at b.core.tray.net phase.Halted first halted).1.1) w
-
 -- a pump gives a list to the miniport
 given_small : (net : Net) (l : LiveList) → IsFirst net → IsFirstList net.head l → AreSmall (miniport_rows net l)
 given_small net l h f =
@@ -163,20 +144,6 @@ done_to status owner = stand.Passed (way.Done status) (Module owner)
 
 owner_there : (b : BookView) (status : ListStatus) (owner : ModuleId) (f : FirstIs b (done_to status owner)) → owner ≡ f.list.owner
 owner_there b status owner f = subst (IsFirstStand f.list.owner) f.stands f.fits.place
-
-pub is_binding_owner : (b : BookView) (status : ListStatus) (owner : ModuleId) (f : FirstIs b (done_to status owner)) → owner ≡ Binding f.fits.binding
-is_binding_owner b status owner f = owner_there b status owner f ∙ f.fits.owner
-
-same_binding : (m n : ℕ) → Binding m ≡ Binding n → m ≡ n
-same_binding m n e = cc
-
-pub owner_within : (b : BookView) (status : ListStatus) (owner : ModuleId) (binding : ℕ) → FirstIs b (done_to status owner) → owner ≡ Binding binding → binding < length b.core.head.bindings
-owner_within b status owner binding f e =
-    let same : binding ≡ f.fits.binding = same_binding binding f.fits.binding (sym e ∙ is_binding_owner b status owner f) in
-    subst (λ n. n < length b.core.head.bindings) (sym same) f.fits.within
-
-pub first_binding : (b : BookView) (status : ListStatus) (owner : ModuleId) (binding : ℕ) → FirstIs b (done_to status owner) → owner ≡ Binding binding → FirstIs b (done_to status (Binding binding))
-first_binding b status owner binding f e = subst (λ o. FirstIs b (done_to status o)) e f
 
 one_home : (net : Net) (l : LiveList) (status : ListStatus) → IsFirstList net.head l → home_rows net l status ≡ row.Home l.list l.owner status ∷ []
 one_home net l status f = ap (λ o. row.Home l.list l.owner status ∷ released net l.owner o status) f.root
@@ -242,14 +209,6 @@ not_back b a status i first e = place_of b a i (way.Back status) first e
 pub not_false : (b : Bool) → not b ≡ false → b ≡ true
 not_false true e = refl
 not_false false e = cc
-
--- where the stack isn't Halted the miniport is set up
-pub port_at : (b : BookView) (p : Phase) → DriversFit b p → (p ≡ phase.Halted → ⊥) → b.miniport.port ≡ Some b.core.head.port
-port_at b phase.Halted d not_halted = absurd (not_halted refl)
-port_at b phase.Paused d not_halted = d
-port_at b phase.Restarting d not_halted = d
-port_at b phase.Running d not_halted = d
-port_at b phase.Pausing d not_halted = d
 
 -- what a pump has to know of the first list on its way
 pub is_away_of : (net n : Net) (r : Option AwayList) (a : AwayList) → IfSome r (IsAway n) → r ≡ Some a → n ≡ net → IsAway net a

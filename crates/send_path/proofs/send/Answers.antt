@@ -1,4 +1,3 @@
-use Rattle.std.proofs.Common.{ℕ}
 use Rattle.stack_book.proofs.Turns.{finish_next, finish_bytes, adds}
 use Rattle.send_path.proofs.Ends.{send_answered}
 use Rattle.send_path.proofs.send.Goals as goal
