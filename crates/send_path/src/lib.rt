@@ -2,16 +2,20 @@
 #![tactic(auto)]
 
 ghost use Rattle.std.specs.Prelude.{◌≡◌, ◌≤◌, true, false, ℕ};
-ghost use Rattle.ndis_base.specs.declared.ModuleId.TheVariants.{Binding};
+ghost use Rattle.ndis_base.specs.declared.ModuleId.TheVariants.{Miniport};
+ghost use Rattle.journal_types.specs.declared.PassWay.TheVariants as way;
+ghost use Rattle.journal_types.specs.declared.Target.TheVariants.{Module};
+ghost use Rattle.stack_rules.specs.declared.Stand.TheVariants as stand;
 ghost use Rattle.stack_rules.specs.Conditions.{may_ask};
 ghost use Rattle.stack_rules.specs.Sends.{send_outcome, transmit_outcome};
 ghost use Rattle.stack_rules.specs.Pumps.{pump_outcome};
 ghost use Rattle.stack_book.specs.Stands.{Stands, IsReady};
+ghost use Rattle.stack_book.specs.Events.{FirstIs};
 ghost use Rattle.stack_book.specs.Turns.{Acts, AddsTurn};
 ghost use Rattle.send_path.specs.Asks.{AsksSend, AsksTransmit, AsksPump, MaySend, HasAway};
 
 use journal_types::{Asked, Event, Frames, PassWay, Refusal, Reply};
-use ndis_base::{ModuleId, Phase};
+use ndis_base::{ListStatus, ModuleId, Phase};
 use stack_book::Book;
 use stack_book::book::Shown;
 use stack_book::replies::again;
@@ -25,14 +29,16 @@ pub fn send(book: &mut Book, asked: Asked) -> Reply
     ensures stands { Stands (⟦<Book as Shown>⟧.shown book.new) }
     ensures turn { AddsTurn (⟦<Book as Shown>⟧.shown book.old) (⟦<Book as Shown>⟧.shown book.new) asked result }
 {
-    let reply = match &asked.event {
-        Event::Send {
-            binding,
-            cancel,
-            frames,
-        } => write_send(book, *binding, *cancel, frames),
-        _ => unreachable!(),
+    book.facts();
+    let Event::Send {
+        binding,
+        cancel,
+        frames,
+    } = &asked.event
+    else {
+        unreachable!()
     };
+    let reply = write_send(book, *binding, *cancel, frames);
     book.finish(asked, again(&reply));
     reply
 }
@@ -63,6 +69,7 @@ pub fn transmit(book: &mut Book, asked: Asked) -> Reply
     ensures stands { Stands (⟦<Book as Shown>⟧.shown book.new) }
     ensures turn { AddsTurn (⟦<Book as Shown>⟧.shown book.old) (⟦<Book as Shown>⟧.shown book.new) asked result }
 {
+    book.facts();
     let reply = write_transmit(book);
     book.finish(asked, again(&reply));
     reply
@@ -78,6 +85,7 @@ pub fn pump_send(book: &mut Book, asked: Asked) -> Reply
     ensures stands { Stands (⟦<Book as Shown>⟧.shown book.new) }
     ensures turn { AddsTurn (⟦<Book as Shown>⟧.shown book.old) (⟦<Book as Shown>⟧.shown book.new) asked result }
 {
+    book.facts();
     let reply = write_pump(book);
     book.finish(asked, again(&reply));
     reply
@@ -89,6 +97,7 @@ fn write_transmit(book: &mut Book) -> Reply
     ensures stands { Stands (⟦<Book as Shown>⟧.shown book.new) }
     ensures acts { Acts (⟦<Book as Shown>⟧.shown book.old) (⟦<Book as Shown>⟧.shown book.new) (transmit_outcome (⟦<Book as Shown>⟧.shown book.old).core.tray.net) result }
 {
+    book.facts();
     if book.ledger().phase() == Phase::Halted {
         return Reply::Idle;
     }
@@ -106,15 +115,39 @@ fn write_pump(book: &mut Book) -> Reply
     ensures acts { Acts (⟦<Book as Shown>⟧.shown book.old) (⟦<Book as Shown>⟧.shown book.new) (pump_outcome (⟦<Book as Shown>⟧.shown book.old).core.tray.net false) result }
 {
     book.facts();
-    if let Some(away) = book.ledger().first_away() {
-        match (away.way, away.owner) {
-            (PassWay::Down, _) => book.give_down(),
-            (PassWay::Done(status), ModuleId::Binding(binding)) => {
-                book.bring_home(binding, status);
-            }
-            _ => unreachable!(),
-        }
-        return Reply::Moved;
+    let Some(away) = book.ledger().first_away() else {
+        unreachable!()
+    };
+    match away.way {
+        PassWay::Down => give(book),
+        PassWay::Done(status) => home(book, away.owner, status),
+        PassWay::Up | PassWay::Back(_) => unreachable!(),
     }
-    unreachable!()
+}
+
+fn give(book: &mut Book) -> Reply
+    requires stands { Stands (⟦<Book as Shown>⟧.shown book.old) }
+    requires ready { IsReady (⟦<Book as Shown>⟧.shown book.old) }
+    requires first { FirstIs (⟦<Book as Shown>⟧.shown book.old) (stand.Passed way.Down (Module Miniport)) }
+    ensures stands { Stands (⟦<Book as Shown>⟧.shown book.new) }
+    ensures acts { Acts (⟦<Book as Shown>⟧.shown book.old) (⟦<Book as Shown>⟧.shown book.new) (pump_outcome (⟦<Book as Shown>⟧.shown book.old).core.tray.net false) result }
+{
+    book.facts();
+    book.give_down();
+    Reply::Moved
+}
+
+fn home(book: &mut Book, owner: ModuleId, status: ListStatus) -> Reply
+    requires stands { Stands (⟦<Book as Shown>⟧.shown book.old) }
+    requires ready { IsReady (⟦<Book as Shown>⟧.shown book.old) }
+    requires first { FirstIs (⟦<Book as Shown>⟧.shown book.old) (stand.Passed (way.Done status) (Module owner)) }
+    ensures stands { Stands (⟦<Book as Shown>⟧.shown book.new) }
+    ensures acts { Acts (⟦<Book as Shown>⟧.shown book.old) (⟦<Book as Shown>⟧.shown book.new) (pump_outcome (⟦<Book as Shown>⟧.shown book.old).core.tray.net false) result }
+{
+    book.facts();
+    let ModuleId::Binding(binding) = owner else {
+        unreachable!()
+    };
+    book.bring_home(binding, status);
+    Reply::Moved
 }
