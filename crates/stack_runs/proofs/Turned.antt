@@ -113,7 +113,7 @@ leads old new e r a p b t l = at_phase old new e r p b t l.phase
 
 -- the opening of a stack
 pub open_runs : (old one two new : BookView) (r s u : Reply) → IsAt old phase.Halted → IsBetween one → IsBetween two → IsBetween new → Turned old one event.Initialize r → (r ≢ reply.Refused refusal.InitRefused) → Turned one two event.RestartNext s → Turned two new event.RestartNext u → Runs old new phase.Running
-open_runs old one two new r s u at b1 b2 b3 t no t2 t3 =
+open_runs old one two new r s u at b1 b2 b3 t accepted t2 t3 =
     let g = initialize_either old.core.tray.net t.turn t.first t.next t.event at.phase in
     let first : Runs old one phase.Paused = at_phase old one event.Initialize r phase.Paused b1 t (by_answer g.answer g.done) in
     let second : Runs one two phase.Restarting = leads one two event.RestartNext s reply.Next phase.Restarting b2 t2 (restart_gives_next one.core.tray.net t2.turn t2.first t2.next t2.event first.now.phase) in
@@ -122,7 +122,7 @@ open_runs old one two new r s u at b1 b2 b3 t no t2 t3 =
   where
     by_answer : (t.turn.reply ≡ reply.Ok) ⊎ (t.turn.reply ≡ reply.Refused refusal.InitRefused) → (t.turn.reply ≡ reply.Ok → (after_turn old.core.tray.net t.turn).phase ≡ phase.Paused) → (after_turn old.core.tray.net t.turn).phase ≡ phase.Paused
     by_answer (inl is) done = done is
-    by_answer (inr is) done = absurd (no (sym t.reply ∙ is))
+    by_answer (inr is) done = absurd (accepted (sym t.reply ∙ is))
 
 pub begin_runs : (old new : BookView) (r : Reply) → IsAt old phase.Running → IsBetween new → Turned old new event.BeginPause r → Runs old new phase.Pausing
 begin_runs old new r at b t = leads old new event.BeginPause r reply.Ok phase.Pausing b t (begin_gives old.core.tray.net t.turn t.first t.next t.event at.phase)
@@ -157,3 +157,9 @@ call_runs old new event.Transmit r m at b t = at_phase old new _ r phase.Running
 call_runs old new event.Pump r m at b t = at_phase old new _ r phase.Running b t ((pump_gives old.core.tray.net t.turn t.first t.next t.event).phase ∙ at.phase)
 call_runs old new event.Drain r m at b t = at_phase old new _ r phase.Running b t ((drain_gives old.core.tray.net t.turn t.first t.next t.event).phase ∙ at.phase)
 call_runs old new _ r m at b t = absurd m
+
+-- the same with its tail
+pub tail_runs : (old mid new : BookView) (e : Event) (r : Reply) → MayCall e → IsAt old phase.Running → IsBetween mid → Turned old mid e r → Runs mid new mid.core.tray.net.phase → Runs old new phase.Running
+tail_runs old mid new e r m at b t x =
+    let first : Runs old mid phase.Running = call_runs old mid e r m at b t in
+    then_runs old mid new _ _ first (stays_at mid new phase.Running first.now x)

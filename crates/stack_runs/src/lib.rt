@@ -114,7 +114,8 @@ pub fn run_call(
     if !pump || is_refused(&reply) {
         return Ok(());
     }
-    pump_all(book, alloc, Who::Help(lane))
+    pump_all(book, alloc, Who::Help(lane))?;
+    Ok(())
 }
 
 /// One drain of a Pausing stack that waits: a list moves.
