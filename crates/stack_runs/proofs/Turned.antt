@@ -1,5 +1,5 @@
 -- What the turns of a run do to a book.
-use Rattle.std.proofs.Common.{◌≡◌, ◌≢◌, ◌<◌, ℕ, true, false, List, [], ◌∷◌, ◌++◌, length, refl, arith, ap, sym, subst, ◌∙◌, inl, inr, ◌⊎◌}
+use Rattle.std.proofs.Common.{◌≡◌, ◌≢◌, ◌<◌, ℕ, List, [], ◌∷◌, ◌++◌, length, refl, ap, sym, subst, ◌∙◌, inl, inr, ◌⊎◌}
 use Rattle.ndis_base.specs.declared.Phase.{Phase}
 use Rattle.ndis_base.specs.declared.Phase.TheVariants as phase
 use Rattle.journal_types.specs.declared.Asked.{Asked}
@@ -12,7 +12,7 @@ use Rattle.journal_types.specs.declared.Turn.{Turn}
 use Rattle.stack_rules.specs.Net.{Net, start, seen, after_rows, after_turn, after_turns}
 use Rattle.stack_rules.specs.Sound.{Next}
 use Rattle.first_form.specs.First.{IsFirst, IsFirstEvent, steps_to_go, pause_to_go}
-use Rattle.first_form.proofs.Progress.{PumpGives, pump_gives, DrainGives, drain_gives, TransmitGives, transmit_gives, SendGives, send_gives, PauseGives, pause_gives, LeadsTo, restart_gives_next, restart_gives_running, begin_gives, initialize_either, halt_gives}
+use Rattle.first_form.proofs.Progress.{PumpGives, pump_gives, DrainGives, drain_gives, transmit_gives, send_gives, PauseGives, pause_gives, LeadsTo, restart_gives_next, restart_gives_running, begin_gives, initialize_either, halt_gives}
 use Rattle.stack_core.specs.Core.{Follows}
 use Rattle.stack_book.specs.Views.{BookView}
 use Rattle.stack_book.specs.Turns.{AddsTurn, asked_turn}

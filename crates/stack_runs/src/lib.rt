@@ -7,7 +7,6 @@ ghost use Rattle.journal_types.specs.declared.Reply.{Reply};
 ghost use Rattle.journal_types.specs.declared.Refusal.{Refusal};
 ghost use Rattle.stack_rules.specs.Conditions.{may_ask};
 ghost use Rattle.first_form.specs.First.{IsFirstEvent, steps_to_go, pause_to_go};
-ghost use Rattle.stack_book.specs.Stands.{Stands};
 ghost use Rattle.stack_book.specs.Stands.{Same};
 ghost use Rattle.stack_book.specs.Turns.{AddsTurn};
 ghost use Rattle.stack_runs.specs.Runs.{IsBetween, IsAt, Runs, MayCall, Turned, IsWaiting};
