@@ -3,6 +3,12 @@ use Rattle.std.specs.Prelude.{◌≡◌, []}
 use Rattle.ndis_base.specs.declared.Phase.{Phase}
 use Rattle.journal_types.specs.declared.Event.{Event}
 use Rattle.journal_types.specs.declared.Event.TheVariants as event
+use Rattle.journal_types.specs.declared.Reply.{Reply}
+use Rattle.journal_types.specs.declared.Reply.TheVariants as reply
+use Rattle.journal_types.specs.declared.Turn.{Turn}
+use Rattle.stack_rules.specs.Net.{after_turn}
+use Rattle.stack_rules.specs.Sound.{Next}
+use Rattle.first_form.specs.First.{IsFirst}
 use Rattle.stack_book.specs.Views.{BookView}
 use Rattle.stack_book.specs.Stands.{Stands}
 
@@ -21,6 +27,16 @@ pub record Runs (old new : BookView) (at : Phase) : Type 0 where
   pub head : new.core.head ≡ old.core.head
   pub now : IsAt new at
 
+-- a turn of this event was answered so, and the state follows it
+pub record Turned (old new : BookView) (e : Event) (answer : Reply) : Type 0 where
+  pub turn : Turn
+  pub event : turn.event ≡ e
+  pub reply : turn.reply ≡ answer
+  pub first : IsFirst old.core.tray.net
+  pub next : Next old.core.tray.net turn
+  pub net : new.core.tray.net ≡ after_turn old.core.tray.net turn
+  pub head : new.core.head ≡ old.core.head
+
 -- the events that a call of a script asks for
 abbrev pub MayCall : Event → Type 0
 MayCall (event.Send binding cancel frames) = Unit {0}
@@ -28,3 +44,8 @@ MayCall event.Transmit = Unit {0}
 MayCall event.Pump = Unit {0}
 MayCall event.Drain = Unit {0}
 MayCall _ = ⊥
+
+-- a pause waits for what is left
+abbrev pub IsWaiting : Reply → Type 0
+IsWaiting (reply.Waiting n) = Unit {0}
+IsWaiting _ = ⊥

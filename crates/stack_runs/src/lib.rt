@@ -1,13 +1,15 @@
 //! A whole run of one stack: the opening, the calls with their tails, and the ending.
 #![tactic(auto)]
 
-ghost use Rattle.std.specs.Prelude.{◌≡◌, [], true, OnOk, OnErr, IfOk};
+ghost use Rattle.std.specs.Prelude.{◌≡◌, ◌≢◌, ◌<◌, [], true, false, length, OnOk, OnErr, IfOk};
+ghost use Rattle.journal_types.specs.declared.Event.{Event};
+ghost use Rattle.journal_types.specs.declared.Reply.{Reply};
+ghost use Rattle.journal_types.specs.declared.Refusal.{Refusal};
 ghost use Rattle.stack_rules.specs.Conditions.{may_ask};
-ghost use Rattle.first_form.specs.First.{IsFirstEvent};
-ghost use Rattle.stack_book.specs.Stands.{Stands};
+ghost use Rattle.first_form.specs.First.{IsFirstEvent, steps_to_go, pause_to_go};
 ghost use Rattle.stack_book.specs.Stands.{Same};
 ghost use Rattle.stack_book.specs.Turns.{AddsTurn};
-ghost use Rattle.stack_runs.specs.Runs.{IsBetween, IsAt, Runs, MayCall};
+ghost use Rattle.stack_runs.specs.Runs.{IsBetween, IsAt, Runs, MayCall, Turned, IsWaiting};
 
 use journal_types::{Asked, Event, Reply};
 use ndis_base::{LaneNo, OutOfMemory, Phase, Who};
@@ -23,8 +25,13 @@ fn ask(book: &mut Book, alloc: Global, who: Who, event: Event) -> Result<Reply, 
     ensures between { IsBetween (⟦<Book as Shown>⟧.shown book.new) }
     ensures turn { IfOk result (λ r. AddsTurn (⟦<Book as Shown>⟧.shown book.old) (⟦<Book as Shown>⟧.shown book.new) (record { who = who; event = event }) r) }
     ensures same { OnErr result (Same (⟦<Book as Shown>⟧.shown book.old) (⟦<Book as Shown>⟧.shown book.new)) }
+    ensures turned { IfOk result (λ r. Turned (⟦<Book as Shown>⟧.shown book.old) (⟦<Book as Shown>⟧.shown book.new) event r) }
+    ensures accepted { IfOk result (λ r. event ≡ Event.Initialize → r ≢ Reply.Refused (Refusal.InitRefused)) }
 {
-    step(book, alloc, Asked { who, event })
+    book.facts();
+    let reply = step(book, alloc, Asked { who, event })?;
+    book.facts();
+    Ok(reply)
 }
 
 /// The opening: the stack is initialised and restarted until it runs.
@@ -39,17 +46,51 @@ pub fn open_stack(book: &mut Book, alloc: Global) -> Result<(), OutOfMemory>
     Ok(())
 }
 
+fn is_moved(reply: &Reply) -> bool
+    ensures { result ≡ true → reply.now ≡ Reply.Moved }
+{
+    matches!(reply, Reply::Moved)
+}
+
+fn is_paused(reply: &Reply) -> bool
+    ensures yes { result ≡ true → reply.now ≡ Reply.Paused }
+    ensures no { result ≡ false → reply.now ≢ Reply.Paused }
+{
+    matches!(reply, Reply::Paused)
+}
+
+fn is_waiting(reply: &Reply) -> bool
+    ensures yes { result ≡ true → IsWaiting reply.now }
+    ensures no { result ≡ false → IsWaiting reply.now → ⊥ }
+{
+    matches!(reply, Reply::Waiting { .. })
+}
+
+fn is_refused(reply: &Reply) -> bool {
+    matches!(reply, Reply::Refused(_))
+}
+
+/// One pump: whether anything moved.
+fn pump_once(book: &mut Book, alloc: Global, who: Who) -> Result<bool, OutOfMemory>
+    requires between { IsBetween (⟦<Book as Shown>⟧.shown book.old) }
+    ensures between { IsBetween (⟦<Book as Shown>⟧.shown book.new) }
+    ensures runs { OnOk result (Runs (⟦<Book as Shown>⟧.shown book.old) (⟦<Book as Shown>⟧.shown book.new) (⟦<Book as Shown>⟧.shown book.old).core.tray.net.phase) }
+    ensures fewer { IfOk result (λ moved. moved ≡ true → steps_to_go (⟦<Book as Shown>⟧.shown book.new).core.tray.net < steps_to_go (⟦<Book as Shown>⟧.shown book.old).core.tray.net) }
+{
+    let reply = ask(book, alloc, who, Event::Pump)?;
+    Ok(is_moved(&reply))
+}
+
 /// Pumps until nothing moves.
 fn pump_all(book: &mut Book, alloc: Global, who: Who) -> Result<(), OutOfMemory>
     requires between { IsBetween (⟦<Book as Shown>⟧.shown book.old) }
     ensures between { IsBetween (⟦<Book as Shown>⟧.shown book.new) }
     ensures runs { OnOk result (Runs (⟦<Book as Shown>⟧.shown book.old) (⟦<Book as Shown>⟧.shown book.new) (⟦<Book as Shown>⟧.shown book.old).core.tray.net.phase) }
 {
-    loop {
-        match ask(book, alloc, who, Event::Pump)? {
-            Reply::Moved => {}
-            _ => return Ok(()),
-        }
+    if pump_once(book, alloc, who)? {
+        pump_all(book, alloc, who)
+    } else {
+        Ok(())
     }
 }
 
@@ -68,15 +109,40 @@ pub fn run_call(
     ensures between { IsBetween (⟦<Book as Shown>⟧.shown book.new) }
     ensures running { OnOk result (Runs (⟦<Book as Shown>⟧.shown book.old) (⟦<Book as Shown>⟧.shown book.new) Phase.Running) }
 {
-    match ask(book, alloc, Who::Call(lane), event)? {
-        Reply::Refused(_) => Ok(()),
-        _ => {
-            if pump {
-                pump_all(book, alloc, Who::Help(lane))?;
-            }
-            Ok(())
-        }
+    let reply = ask(book, alloc, Who::Call(lane), event)?;
+    if !pump || is_refused(&reply) {
+        return Ok(());
     }
+    pump_all(book, alloc, Who::Help(lane))?;
+    Ok(())
+}
+
+/// One drain of a Pausing stack that waits: a list moves.
+fn drain_once(book: &mut Book, alloc: Global) -> Result<(), OutOfMemory>
+    requires pausing { IsAt (⟦<Book as Shown>⟧.shown book.old) Phase.Pausing }
+    requires some { 0 < length (⟦<Book as Shown>⟧.shown book.old).core.tray.net.things }
+    ensures between { IsBetween (⟦<Book as Shown>⟧.shown book.new) }
+    ensures pausing { OnOk result (Runs (⟦<Book as Shown>⟧.shown book.old) (⟦<Book as Shown>⟧.shown book.new) Phase.Pausing) }
+    ensures fewer { OnOk result (pause_to_go (⟦<Book as Shown>⟧.shown book.new).core.tray.net < pause_to_go (⟦<Book as Shown>⟧.shown book.old).core.tray.net) }
+{
+    ask(book, alloc, Who::Own, Event::Drain)?;
+    Ok(())
+}
+
+/// One step of a pause, and one drain where it waits: whether the stack is paused.
+fn pause_once(book: &mut Book, alloc: Global) -> Result<bool, OutOfMemory>
+    requires pausing { IsAt (⟦<Book as Shown>⟧.shown book.old) Phase.Pausing }
+    ensures between { IsBetween (⟦<Book as Shown>⟧.shown book.new) }
+    ensures paused { IfOk result (λ done. done ≡ true → Runs (⟦<Book as Shown>⟧.shown book.old) (⟦<Book as Shown>⟧.shown book.new) Phase.Paused) }
+    ensures pausing { IfOk result (λ done. done ≡ false → Runs (⟦<Book as Shown>⟧.shown book.old) (⟦<Book as Shown>⟧.shown book.new) Phase.Pausing) }
+    ensures fewer { IfOk result (λ done. done ≡ false → pause_to_go (⟦<Book as Shown>⟧.shown book.new).core.tray.net < pause_to_go (⟦<Book as Shown>⟧.shown book.old).core.tray.net) }
+{
+    let reply = ask(book, alloc, Who::Own, Event::PauseNext)?;
+    if is_waiting(&reply) {
+        drain_once(book, alloc)?;
+        return Ok(false);
+    }
+    Ok(is_paused(&reply))
 }
 
 /// Pauses a Pausing stack to its end: after each Waiting one drain.
@@ -85,14 +151,10 @@ fn pause_all(book: &mut Book, alloc: Global) -> Result<(), OutOfMemory>
     ensures between { IsBetween (⟦<Book as Shown>⟧.shown book.new) }
     ensures paused { OnOk result (Runs (⟦<Book as Shown>⟧.shown book.old) (⟦<Book as Shown>⟧.shown book.new) Phase.Paused) }
 {
-    loop {
-        match ask(book, alloc, Who::Own, Event::PauseNext)? {
-            Reply::Paused => return Ok(()),
-            Reply::Waiting { .. } => {
-                ask(book, alloc, Who::Own, Event::Drain)?;
-            }
-            _ => {}
-        }
+    if pause_once(book, alloc)? {
+        Ok(())
+    } else {
+        pause_all(book, alloc)
     }
 }
 
