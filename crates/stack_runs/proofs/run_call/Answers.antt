@@ -1,4 +1,4 @@
-use Rattle.stack_runs.proofs.Turned.{may_first, call_runs, tail_runs}
+use Rattle.stack_runs.proofs.Turned.{call_runs, tail_runs}
 use Rattle.stack_runs.proofs.run_call.Goals as goal
 
 pub returns-then-not-pump-clause-running : goal.returns-then-not-pump-clause-running
