@@ -87,11 +87,8 @@ fn pump_all(book: &mut Book, alloc: Global, who: Who) -> Result<(), OutOfMemory>
     ensures between { IsBetween (⟦<Book as Shown>⟧.shown book.new) }
     ensures runs { OnOk result (Runs (⟦<Book as Shown>⟧.shown book.old) (⟦<Book as Shown>⟧.shown book.new) (⟦<Book as Shown>⟧.shown book.old).core.tray.net.phase) }
 {
-    if pump_once(book, alloc, who)? {
-        pump_all(book, alloc, who)
-    } else {
-        Ok(())
-    }
+    while pump_once(book, alloc, who)? {}
+    Ok(())
 }
 
 /// A call of a lane, and its tail where it has one: after a call that isn't refused the stack is
@@ -151,11 +148,8 @@ fn pause_all(book: &mut Book, alloc: Global) -> Result<(), OutOfMemory>
     ensures between { IsBetween (⟦<Book as Shown>⟧.shown book.new) }
     ensures paused { OnOk result (Runs (⟦<Book as Shown>⟧.shown book.old) (⟦<Book as Shown>⟧.shown book.new) Phase.Paused) }
 {
-    if pause_once(book, alloc)? {
-        Ok(())
-    } else {
-        pause_all(book, alloc)
-    }
+    while !pause_once(book, alloc)? {}
+    Ok(())
 }
 
 /// The ending of a stack that runs: it is pumped until nothing moves, paused, and halted.

@@ -1,0 +1,20 @@
+use Rattle.std.proofs.Common.{◌≡◌, map}
+use Rattle.ndis_base.specs.declared.Phase.TheVariants as phase
+use Rattle.first_form.specs.First.{pause_to_go}
+use Rattle.stack_runs.specs.Runs.{IsAt}
+use Rattle.stack_runs.proofs.pause_all.Given as goal
+
+abbrev pub invariant-loop : goal.invariant-loop
+invariant-loop g l = record {
+  pausing : IsAt (record {
+    core = l.book.core;
+    miniport = (goal.MiniportDriver-dyn g (l.book.miniport.vtable, l.book.miniport.value)).state l.book.miniport.value;
+    log_room = (goal.MiniportDriver-dyn g (l.book.miniport.vtable, l.book.miniport.value)).log_room l.book.miniport.value;
+    log_bytes = (goal.MiniportDriver-dyn g (l.book.miniport.vtable, l.book.miniport.value)).log_bytes l.book.miniport.value;
+    protocols = map (λ d. (goal.ProtocolDriver-dyn g (d.vtable, d.value)).state d.value) l.book.protocols.items;
+  }) phase.Pausing;
+  head : l.book.core.head ≡ l.initial.book.core.head;
+}
+
+abbrev pub decreases-loop : goal.decreases-loop
+decreases-loop g l = pause_to_go l.book.core.tray.net
