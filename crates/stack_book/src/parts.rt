@@ -3,6 +3,7 @@ use driver_traits::{FilterDriver, MiniportDriver, ProtocolDriver};
 
 /// The drivers that a stack may take: miniports, protocols, and filters on the shelf, each in an
 /// order of the caller's.
+#[derive(Drop)]
 pub struct StackParts {
     pub miniports: Vec<Box<dyn MiniportDriver>>,
     pub protocols: Vec<Box<dyn ProtocolDriver>>,
