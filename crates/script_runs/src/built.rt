@@ -1,11 +1,9 @@
 //! Which scripts can be run.
-ghost use Rattle.std.specs.Prelude.{◌≡◌, IfOk, true};
+ghost use Rattle.std.specs.Prelude.{◌≡◌, IfOk};
 ghost use Rattle.std.specs.List.{list_all};
-ghost use Rattle.stack_rules.specs.Conditions.{is_cancel, is_frame, are_frames, may_ask};
-ghost use Rattle.journal_types.specs.declared.Event.TheVariants as event;
+ghost use Rattle.stack_rules.specs.Conditions.{is_cancel, is_frame, are_frames};
 ghost use Rattle.journal_types.specs.declared.StackHead.{StackHead};
 ghost use Rattle.script_runs.specs.Built as form;
-ghost use Rattle.script_events.specs.Events.{event_of};
 
 use journal_types::{BindingSetups, StackHead, UpperLinks};
 use ndis_base::{Frame, MiniportKind, OutOfMemory, ProtocolKind};

@@ -1,5 +1,5 @@
 //! The run of a script.
-ghost use Rattle.std.specs.Prelude.{◌≡◌, true, OnOk, OnErr, IfOk};
+ghost use Rattle.std.specs.Prelude.{◌≡◌, true, OnOk, IfOk};
 ghost use Rattle.std.specs.List.{list_all};
 ghost use Rattle.ndis_base.specs.declared.Phase.TheVariants as phase;
 ghost use Rattle.stack_book.specs.Open.{AreIdle};
