@@ -2,6 +2,7 @@
 //! of every step. What is wrong is told in one line on standard error, and by the exit status.
 #![tactic(auto)]
 
+use driver_traits::{MiniportDriver, ProtocolDriver};
 use ndis_base::OutOfMemory;
 use ndis_cli::{Status, ndis_serial};
 use outside_io::{StdSink, StdSource};
@@ -9,7 +10,6 @@ use sample_adapters::RingAdapter;
 use sample_protocols::LogProtocol;
 use script_types::{ScriptCause, ScriptPlace};
 use stack_book::StackParts;
-use std::alloc::Global;
 use std::process::ExitCode;
 use std::{env, io};
 
@@ -44,7 +44,7 @@ fn code_of(status: Status) -> u8 {
     }
 }
 
-fn tell_place(rt: &impl Print, place: ScriptPlace, cause: &str) -> io::Result<()> {
+fn tell_place(rt: &HostRuntime, place: ScriptPlace, cause: &str) -> io::Result<()> {
     match place {
         ScriptPlace::Whole => eprintln!(rt; "bad script at whole: {cause}"),
         ScriptPlace::Stack(stack) => eprintln!(rt; "bad script at stack {stack}: {cause}"),
@@ -52,7 +52,7 @@ fn tell_place(rt: &impl Print, place: ScriptPlace, cause: &str) -> io::Result<()
     }
 }
 
-fn tell(rt: &impl Print, status: Status) -> io::Result<()> {
+fn tell(rt: &HostRuntime, status: Status) -> io::Result<()> {
     match status {
         Status::Done => Ok(()),
         Status::Usage => eprintln!(rt; "usage: ndis replay"),
@@ -85,6 +85,20 @@ fn run(rt: &HostRuntime, words: &[String]) -> Result<Status, OutOfMemory> {
     Ok(status)
 }
 
-fn main(rt: HostRuntime) -> ExitCode {
-    ExitCode::from(0)
+fn words_of(rt: &HostRuntime) -> io::Result<Vec<String>> {
+    let mut words = Vec::new(rt.alloc());
+    for word in env::args(rt)?.skip(1) {
+        words.push(word)?;
+    }
+    Ok(words)
+}
+
+fn main(rt: HostRuntime) -> io::Result<ExitCode> {
+    let words = words_of(&rt)?;
+    let status = match run(&rt, words.as_slice()) {
+        Ok(status) => status,
+        Err(OutOfMemory) => Status::Memory,
+    };
+    tell(&rt, status)?;
+    Ok(ExitCode::from(code_of(status)))
 }

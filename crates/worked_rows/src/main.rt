@@ -1,0 +1,84 @@
+//! Runs recorded scripts over a source and a sink in memory, and compares what is written with their
+//! recorded reports. The file `names` lists the runs, one in a line.
+#![tactic(auto)]
+
+use driver_traits::{MiniportDriver, ProtocolDriver};
+use ndis_base::OutOfMemory;
+use ndis_cli::{Status, ndis_serial};
+use outside_io::{MemorySink, MemorySource};
+use sample_adapters::RingAdapter;
+use sample_protocols::LogProtocol;
+use stack_book::StackParts;
+use std::alloc::Global;
+use std::{fs, io};
+
+/// How many protocols are handed in.
+const PROTOCOLS: usize = 8;
+
+/// The bytes that a report has at most.
+const ROOM: usize = 1 << 20;
+
+/// Replays a script over one ring adapter and eight log protocols.
+fn replay(alloc: Global, script: Vec<u8>, sink: &mut MemorySink) -> Result<Status, OutOfMemory> {
+    let mut miniports: Vec<Box<dyn MiniportDriver>> = Vec::with_capacity(alloc, 1)?;
+    miniports.push(Box::new(alloc, RingAdapter::make(alloc)?)?)?;
+    let mut protocols: Vec<Box<dyn ProtocolDriver>> = Vec::with_capacity(alloc, PROTOCOLS)?;
+    for _ in 0..PROTOCOLS {
+        protocols.push(Box::new(alloc, LogProtocol::make(alloc)?)?)?;
+    }
+    let mut parts = Vec::with_capacity(alloc, 1)?;
+    parts.push(StackParts {
+        miniports,
+        protocols,
+        shelf: Vec::new(alloc),
+    })?;
+    let mut words = Vec::with_capacity(alloc, 1)?;
+    words.push(String::from_str(alloc, "replay")?)?;
+    let mut source = MemorySource::make(script, Vec::new(alloc));
+    Ok(ndis_serial(
+        alloc,
+        words.as_slice(),
+        &mut source,
+        sink,
+        &mut parts,
+    ))
+}
+
+/// How many bytes are the same from the front on.
+fn same_in_front(a: &[u8], b: &[u8]) -> usize {
+    for (i, x) in a.iter().enumerate() {
+        if b.len() <= i || b[i] != *x {
+            return i;
+        }
+    }
+    a.len()
+}
+
+fn compare(rt: &HostRuntime, name: &str) -> io::Result<()> {
+    let alloc = rt.alloc();
+    let script = fs::read(rt, format!(in alloc; "{name}.script.json")?.as_str())?;
+    let report = fs::read(rt, format!(in alloc; "{name}.report")?.as_str())?;
+    let Ok(mut sink) = MemorySink::make(alloc, ROOM, Vec::new(alloc)) else {
+        return println!(rt; "{name} out of memory");
+    };
+    match replay(alloc, script, &mut sink) {
+        Ok(Status::Done) => {
+            if sink.bytes() == report.as_slice() {
+                println!(rt; "{name} ok")
+            } else {
+                let at = same_in_front(sink.bytes(), report.as_slice());
+                println!(rt; "{name} differs from byte {at} on")
+            }
+        }
+        Ok(status) => println!(rt; "{name} {status:?}"),
+        Err(OutOfMemory) => println!(rt; "{name} out of memory"),
+    }
+}
+
+fn main(rt: HostRuntime) -> io::Result<()> {
+    let names = fs::read_to_string(&rt, "names")?;
+    for name in names.as_str().lines() {
+        compare(&rt, name)?;
+    }
+    Ok(())
+}
