@@ -1,0 +1,67 @@
+-- What the top call answers, reads and writes.
+use Rattle.std.specs.Prelude.{◌≡◌, ℕ, true, false, Bool, List, [], ◌∷◌, Option, Some, Ok, Err, IfSome}
+use Rattle.journal_types.specs.Written.{Written}
+use Rattle.outside_io.specs.Edges.{after}
+use Rattle.run_report.specs.Report.{report}
+use Rattle.script_types.specs.declared.Script.{Script}
+use Rattle.script_types.specs.declared.ScriptPlace.{ScriptPlace}
+use Rattle.script_types.specs.declared.ScriptPlace.TheVariants as place
+use Rattle.script_types.specs.declared.ScriptCause.{ScriptCause}
+use Rattle.script_types.specs.declared.ScriptCause.TheVariants as cause
+use Rattle.script_types.specs.declared.ScriptFault.TheVariants as fault
+use Rattle.script_forms.specs.Script.{Says}
+use Rattle.script_runs.specs.Built.{is_built, IsRun}
+use Rattle.ndis_cli.specs.declared.top.Status.{Status}
+use Rattle.ndis_cli.specs.declared.top.Status.TheVariants.{Done, Usage, BadScript, ReadFault, Memory, NoParts}
+
+-- the bytes are the text of this script, where they are told
+abbrev pub IsOf : Option (List ℕ) → Script → Type 0
+IsOf left script = IfSome left (λ bytes. Says bytes (Ok script))
+
+-- the text is no script, and this is its first fault, or it is one that can't be run yet
+pub data IsFaulty (bytes : List ℕ) (at : ScriptPlace) (why : ScriptCause) : Type 0 where
+  no_script : Says bytes (Err (fault.Bad at why)) → IsFaulty bytes at why
+  not_built : (script : Script) → Says bytes (Ok script) → is_built script ≡ false → at ≡ place.Whole → why ≡ cause.NotBuilt → IsFaulty bytes at why
+
+-- the text was added, all of it
+abbrev pub Adds : Option (List ℕ) → Option (List ℕ) → List ℕ → Type 0
+Adds held held' text = held' ≡ after held text
+
+-- the bytes are a script that was run: its journal is of its stack, and sound; and what was written is the
+-- report of that journal, or, with AddsPrefix, a prefix of it
+pub record Wrote (How : Option (List ℕ) → Option (List ℕ) → List ℕ → Type 0) (left : Option (List ℕ)) (held held' : Option (List ℕ)) : Type 0 where
+  pub script : Script
+  pub is : IsOf left script
+  pub built : is_built script ≡ true
+  pub journal : Written
+  pub ran : IsRun script journal.head journal.turns
+  pub written : How held held' (report (journal ∷ []) [])
+
+-- the bytes are a script that can be run
+pub record IsFine (left : Option (List ℕ)) : Type 0 where
+  pub bytes : List ℕ
+  pub script : Script
+  pub told : left ≡ Some bytes
+  pub is : Says bytes (Ok script)
+  pub built : is_built script ≡ true
+
+-- the bytes are a script that can be run, and the stack is its only one
+pub record LacksParts (left : Option (List ℕ)) (stack : ℕ) : Type 0 where
+  pub script : Script
+  pub is : IsOf left script
+  pub built : is_built script ≡ true
+  pub only : stack ≡ 0
+
+-- the call ended before its run
+abbrev pub is_early : Status → Bool
+is_early Usage = true
+is_early (BadScript at why) = true
+is_early ReadFault = true
+is_early (NoParts stack) = true
+is_early _ = false
+
+abbrev pub IsNoFault : Status → Type 0
+IsNoFault Done = Unit {0}
+IsNoFault Memory = Unit {0}
+IsNoFault (NoParts stack) = Unit {0}
+IsNoFault _ = ⊥

@@ -1,0 +1,163 @@
+//! The top call.
+ghost use Rattle.std.specs.Prelude.{◌≡◌, ◌≢◌, ◌↔◌, ◌⊎◌, ℕ, false, All, IfOk, IfSome, IsTrue, true, map, string_bytes};
+ghost use Rattle.outside_io.specs.Edges.{Rose, AddsPrefix};
+ghost use Rattle.script_types.specs.declared.ScriptPlace.{ScriptPlace};
+ghost use Rattle.script_types.specs.declared.ScriptCause.{ScriptCause};
+ghost use Rattle.stack_book.specs.Open.{IsHaltedDriver};
+ghost use Rattle.script_runs.specs.Built.{is_built, IsRun};
+ghost use Rattle.ndis_cli.specs.Words as form;
+ghost use Rattle.ndis_cli.specs.Answers.{IsFaulty, Adds, Wrote, IsFine, LacksParts, is_early, IsNoFault};
+
+use crate::words::is_form;
+use journal_types::Journal;
+use outside_io::{ReadRefusal, Sink, Source, read_all};
+use run_report::{ReportFault, write_report};
+use script_file::read_script;
+use script_runs::{RunFault, is_built, run_script};
+use script_types::{Script, ScriptCause, ScriptFault, ScriptPlace};
+use stack_book::calls::close_all;
+use stack_book::parts::Handed;
+use stack_book::{OpenFault, StackParts};
+use std::alloc::Global;
+
+/// The most bytes that a script has.
+pub const MAX_SCRIPT: usize = 4_194_304;
+
+/// How a call ended.
+#[derive(Clone, Copy, Debug, PartialEq, Eq)]
+pub enum Status {
+    /// All was read, run and written.
+    Done,
+    /// The words are no form of the command. Nothing was read or written.
+    Usage,
+    /// The bytes are no script, or one that can't be run yet. Nothing was written.
+    BadScript {
+        place: ScriptPlace,
+        cause: ScriptCause,
+    },
+    /// A read failed.
+    ReadFault,
+    /// A write failed. What was written is a prefix of the report.
+    WriteFault,
+    /// Memory ran out. The drivers that were moved into the stack are gone.
+    Memory,
+    /// There are too few drivers of the kinds that this stack names, the first such.
+    NoParts {
+        stack: usize,
+    },
+}
+
+/// Reads a script, opens its stack over the first of the parts, makes its calls, ends the stack, and
+/// writes the report. The drivers come back to where they were after every answer but `Memory`.
+pub fn ndis_serial<S: Source, K: Sink>(
+    alloc: Global,
+    words: &[String],
+    source: &mut S,
+    sink: &mut K,
+    parts: &mut Vec<StackParts>,
+) -> Status
+    requires idle { All (λ p. All IsHaltedDriver (⟦<StackParts as Handed>⟧.handed p).miniports) parts.old.items }
+    // Usage, exactly where the words are no form; then nothing is read.
+    ensures usage { (result ≡ Status.Usage) ↔ (form.is_form (map (λ w. string_bytes w) words.now) ≡ false) }
+    ensures unread { result ≡ Status.Usage → source.new ≡ source.old }
+    // A script that is faulty.
+    ensures bad { (at : ScriptPlace) (why : ScriptCause) → result ≡ Status.BadScript at why → IfSome (S.left source.old) (λ bytes. IsFaulty bytes at why) }
+    // Drivers are wanting for the only stack of a script that can be run.
+    ensures no_parts { (k : ℕ) → result ≡ Status.NoParts k → LacksParts (S.left source.old) k }
+    // Faults of the outside.
+    ensures read_fault { result ≡ Status.ReadFault → Rose (S.faults source.old) (S.faults source.new) }
+    ensures write_fault { result ≡ Status.WriteFault → Rose (K.faults sink.old) (K.faults sink.new) }
+    // The report of a run of the script, whole, or a prefix of one.
+    ensures done { result ≡ Status.Done → Wrote Adds (S.left source.old) (K.holds sink.old) (K.holds sink.new) }
+    ensures cut { result ≡ Status.WriteFault → Wrote AddsPrefix (S.left source.old) (K.holds sink.old) (K.holds sink.new) }
+    ensures memory { result ≡ Status.Memory → (K.holds sink.new ≡ K.holds sink.old) ⊎ Wrote AddsPrefix (S.left source.old) (K.holds sink.old) (K.holds sink.new) }
+    // Where nothing was run nothing is written.
+    ensures silent { IsTrue (is_early result) → K.holds sink.new ≡ K.holds sink.old }
+    ensures kept { (result ≡ Status.Usage) ⊎ ((at : ScriptPlace) × (why : ScriptCause) × (result ≡ Status.BadScript at why)) → parts.new.items ≡ parts.old.items }
+    // Where nothing is amiss, it is done, unless memory or drivers run out.
+    ensures complete { form.is_form (map (λ w. string_bytes w) words.now) ≢ false → IsFine (S.left source.old) → ¬ Rose (S.faults source.old) (S.faults source.new) → ¬ Rose (K.faults sink.old) (K.faults sink.new) → IsNoFault result }
+{
+    if !is_form(words) {
+        return Status::Usage;
+    }
+    let bytes = match read_all(alloc, source, MAX_SCRIPT) {
+        Ok(bytes) => bytes,
+        Err(ReadRefusal::Failed) => return Status::ReadFault,
+        Err(ReadRefusal::TooLong) => {
+            return Status::BadScript {
+                place: ScriptPlace::Whole,
+                cause: ScriptCause::TooLong,
+            };
+        }
+        Err(ReadRefusal::Memory) => return Status::Memory,
+    };
+    let script = match read_script(alloc, bytes.as_slice()) {
+        Ok(script) => script,
+        Err(ScriptFault::Bad { place, cause }) => return Status::BadScript { place, cause },
+        Err(ScriptFault::Memory) => return Status::Memory,
+    };
+    if !is_built(&script) {
+        return Status::BadScript {
+            place: ScriptPlace::Whole,
+            cause: ScriptCause::NotBuilt,
+        };
+    }
+    if parts.is_empty() {
+        return Status::NoParts { stack: 0 };
+    }
+    let journal = match run_over(alloc, &script, &mut parts[0]) {
+        Ok(journal) => journal,
+        Err(OpenFault::NoParts) => return Status::NoParts { stack: 0 },
+        Err(OpenFault::Memory) => return Status::Memory,
+    };
+    match write_report(alloc, sink, std::slice::from_ref(&journal), &[]) {
+        Ok(()) => Status::Done,
+        Err(ReportFault::Failed) => Status::WriteFault,
+        Err(ReportFault::Memory) => Status::Memory,
+    }
+}
+
+/// Runs a script over a stack's drivers, which come back to where they were, unless they are lost for
+/// want of memory: then none stand there.
+fn run_over(alloc: Global, script: &Script, parts: &mut StackParts) -> Result<Journal, OpenFault>
+    requires built { is_built script.now ≡ true }
+    requires halted { All IsHaltedDriver (⟦<StackParts as Handed>⟧.handed parts.old).miniports }
+    ensures { IfOk result (λ journal. IsRun script.now journal.head journal.turns) }
+{
+    let mut first = std::mem::replace(parts, no_parts(alloc));
+    close_all(&mut first.protocols);
+    match run_script(alloc, script, first) {
+        Ok((first, journal)) => {
+            put_back(parts, first);
+            Ok(journal)
+        }
+        Err(RunFault::NoParts(first)) => {
+            put_back(parts, first);
+            Err(OpenFault::NoParts)
+        }
+        Err(RunFault::Memory(first)) => {
+            put_back(parts, first);
+            Err(OpenFault::Memory)
+        }
+        Err(RunFault::Lost) => Err(OpenFault::Memory),
+    }
+}
+
+fn no_parts(alloc: Global) -> StackParts {
+    StackParts {
+        miniports: Vec::new(alloc),
+        protocols: Vec::new(alloc),
+        shelf: Vec::new(alloc),
+    }
+}
+
+/// Puts drivers where none stand.
+fn put_back(parts: &mut StackParts, first: StackParts)
+    ensures { parts.new ≡ first }
+{
+    let StackParts {
+        miniports: _,
+        protocols: _,
+        shelf: _,
+    } = std::mem::replace(parts, first);
+}
