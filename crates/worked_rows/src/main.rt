@@ -35,13 +35,7 @@ fn replay(alloc: Global, script: Vec<u8>, sink: &mut MemorySink) -> Result<Statu
     let mut words = Vec::with_capacity(alloc, 1)?;
     words.push(String::from_str(alloc, "replay")?)?;
     let mut source = MemorySource::make(script, Vec::new(alloc));
-    Ok(ndis_serial(
-        alloc,
-        words.as_slice(),
-        &mut source,
-        sink,
-        &mut parts,
-    ))
+    Ok(ndis_serial(alloc, words.as_slice(), &mut source, sink, &mut parts))
 }
 
 /// How many bytes are the same from the front on.

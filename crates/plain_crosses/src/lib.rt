@@ -1,6 +1,0 @@
-//! Messages between stacks that MUX intermediate drivers join, computed plainly.
-#![tactic(auto)]
-
-pub mod crosses;
-
-ghost use Rattle.std.specs.Prelude.{◌≡◌};

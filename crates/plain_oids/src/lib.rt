@@ -1,8 +1,0 @@
-//! OID requests and status indications, computed plainly.
-#![tactic(auto)]
-
-pub mod requests;
-pub mod statuses;
-pub mod table;
-
-ghost use Rattle.std.specs.Prelude.{◌≡◌};

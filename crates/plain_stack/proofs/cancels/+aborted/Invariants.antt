@@ -1,5 +1,0 @@
-use Rattle.std.proofs.Common.{length}
-use Rattle.plain_stack.proofs.cancels.+aborted.Given as goal
-
-abbrev pub decreases-aborted : goal.decreases-aborted
-decreases-aborted l = length l.lists.now

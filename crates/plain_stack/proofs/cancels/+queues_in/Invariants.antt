@@ -1,5 +1,0 @@
-use Rattle.std.proofs.Common.{length}
-use Rattle.plain_stack.proofs.cancels.+queues_in.Given as goal
-
-abbrev pub decreases-queues_in : goal.decreases-queues_in
-decreases-queues_in l = length l.order.now

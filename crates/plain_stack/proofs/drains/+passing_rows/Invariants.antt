@@ -1,5 +1,0 @@
-use Rattle.std.proofs.Common.{length}
-use Rattle.plain_stack.proofs.drains.+passing_rows.Given as goal
-
-abbrev pub decreases-passing_rows : goal.decreases-passing_rows
-decreases-passing_rows l = length l.filters.now

@@ -1,5 +1,0 @@
-use Rattle.std.proofs.Common.{length}
-use Rattle.plain_stack.proofs.drains.+returning_rows.Given as goal
-
-abbrev pub decreases-returning_rows : goal.decreases-returning_rows
-decreases-returning_rows l = length l.bindings.now
