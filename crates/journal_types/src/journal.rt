@@ -31,10 +31,12 @@ impl Model for Journal {
 }
 
 impl Journal {
-    /// A journal without turns. It takes no memory.
+    /// A journal without turns, and without room for any. It takes no memory.
     pub fn make(alloc: Global, head: StackHead) -> Journal
         ensures head { result.head ≡ head }
         ensures turns { result.turns ≡ [] }
+        ensures rows { result.row_room ≡ 0 }
+        ensures bytes { result.byte_room ≡ 0 }
     {
         Journal {
             head,
