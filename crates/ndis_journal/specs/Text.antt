@@ -8,9 +8,9 @@ use Rattle.journal_types.specs.declared.StackHead.{StackHead}
 use Rattle.journal_types.specs.declared.Turn.{Turn}
 use Rattle.journal_types.specs.declared.Row.{Row}
 use Rattle.journal_types.specs.Written.{Written}
-use Rattle.ndis_journal.specs.Words.{spaced, hex_text, binding_text}
-use Rattle.ndis_journal.specs.Events.{who_words, event_words, reply_words}
-use Rattle.ndis_journal.specs.Rows.{row_words}
+use Rattle.journal_words.specs.Words.{spaced, hex_text, binding_text}
+use Rattle.journal_events.specs.Events.{who_words, event_words, reply_words}
+use Rattle.journal_rows.specs.Rows.{row_words}
 use Rattle.ndis_journal.specs.Counted.{is_issue, is_home, is_wire, is_deliver, rows_of}
 
 -- for a virtual miniport the stack below, the binding there and the VLAN

@@ -2,19 +2,15 @@
 #![tactic(auto)]
 
 pub mod counts;
-pub mod events;
-pub mod line;
 pub mod lines;
-pub mod programs;
-pub mod rows;
 pub mod text;
 
 ghost use Rattle.std.specs.Prelude.{◌≡◌};
 
-pub use crate::line::Line;
 pub use crate::lines::Lines;
 pub use crate::text::write_text;
 pub use journal_types::{
     Asked, BindingSetups, Event, FilterList, Frames, Handler, How, Journal, OutWay, PassWay,
     PhaseOf, PortSetup, Refusal, Reply, Row, Rows, Setup, StackHead, Target, Turn, UpperLinks, Way,
 };
+pub use journal_words::Line;

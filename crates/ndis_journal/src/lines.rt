@@ -1,13 +1,13 @@
 //! The lines of a journal, one after the other.
 ghost use Rattle.std.specs.Prelude.{◌≡◌, ℕ, ◌+◌, ◌++◌, ◌∷◌, [], length, codes, map, IfOk, OnErr, OnOk, MatchOption};
-ghost use Rattle.ndis_journal.specs.Words.{spaced};
+ghost use Rattle.journal_words.specs.Words.{spaced};
 ghost use Rattle.ndis_journal.specs.Text.{link_words, vlan_words, port_words, lines, head_line, binding_line, turn_line, row_line, end_line};
 
 use crate::counts::{Counted, count_rows};
-use crate::events::{push_event, push_reply, push_who};
-use crate::line::Line;
-use crate::rows::push_row;
+use journal_events::events::{push_event, push_reply, push_who};
+use journal_rows::rows::push_row;
 use journal_types::{Journal, PortSetup, Row, StackHead, Turn};
+use journal_words::line::Line;
 use ndis_base::{OutOfMemory, ProtocolKind, name_of_miniport_kind, name_of_protocol_kind};
 use std::alloc::Global;
 use std::marker::Model;

@@ -1,9 +1,6 @@
 //! Scripts read from their texts.
 #![tactic(auto)]
 
-pub mod calls;
-pub mod filters;
-pub mod stacks;
 pub mod whole;
 
 pub use crate::whole::read_script;

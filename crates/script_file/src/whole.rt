@@ -7,10 +7,10 @@ ghost use Rattle.script_forms.specs.Results.{GivesAtPlace};
 ghost use Rattle.script_forms.specs.Script.{stack_after, call_after, rewires, rewires_stack, other_lane, two_lanes, two_rewirers, outline_in, script_in};
 ghost use Rattle.script_file.specs.Reads.{ReadsAs};
 
-use crate::calls::call_of;
-use crate::stacks::stack_of;
+use script_calls::calls::call_of;
 use script_forms::members::{items_at, number_at};
 use script_forms::parts::{Trouble, check_members};
+use script_stacks::stacks::stack_of;
 use script_types::{
     Call, CallKind, Calls, Script, ScriptCause, ScriptFault, ScriptPlace, StackSetup, Stacks,
 };

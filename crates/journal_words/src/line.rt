@@ -1,0 +1,223 @@
+//! A line of text that is being written, word by word.
+ghost use Rattle.std.specs.Prelude.{◌≡◌, ◌/◌, ◌%◌, ◌<◌, ◌++◌, [], OnOk, codes, decimal, false, if◌then◌else◌};
+ghost use Rattle.std.specs.Fmt.{digit_glyph};
+ghost use Rattle.journal_words.specs.Words.{word, hex, hex_text, value_text, code_text, frames_text, more_frames_text, optional_text, filter_text, binding_text, module_text, target_text, handlers_text};
+
+use itoa::Buffer;
+use journal_types::{Frames, Target};
+use ndis_base::{Frame, Handlers, ModuleId, OidValue, OutOfMemory};
+use std::alloc::Global;
+use std::marker::Model;
+
+fn digit_of(number: u8) -> u8
+    requires { number < 16 }
+    ensures { result ≡ digit_glyph false number }
+{
+    if number < 10 {
+        b'0' + number
+    } else {
+        b'a' - 10 + number
+    }
+}
+
+/// A line of text, seen as its bytes. Where memory runs out while a word is written, the line holds
+/// a part of the word.
+#[derive(Drop)]
+pub struct Line {
+    bytes: Vec<u8>,
+}
+
+impl Model for Line {
+    ghost use Rattle.std.specs.Prelude.{List, ℕ};
+
+    ghost Value = { List ℕ };
+
+    ghost view = { λ l. l.bytes.items };
+}
+
+impl Line {
+    /// A line without text. It takes no memory.
+    pub fn empty(alloc: Global) -> Line
+        ensures { result ≡ [] }
+    {
+        Line {
+            bytes: Vec::new(alloc),
+        }
+    }
+
+    pub fn bytes(&self) -> &[u8]
+        ensures { result.now ≡ self.now }
+    {
+        self.bytes.as_slice()
+    }
+
+    /// Adds a text as it is.
+    pub fn text(&mut self, text: &str) -> Result<(), OutOfMemory>
+        ensures { OnOk result (self.new ≡ self.old ++ text.now) }
+    {
+        self.bytes.extend_from_slice(text.as_bytes())?;
+        Ok(())
+    }
+
+    /// Adds a number in decimal.
+    pub fn digits(&mut self, number: u64) -> Result<(), OutOfMemory>
+        ensures { OnOk result (self.new ≡ self.old ++ decimal number) }
+    {
+        let mut digits = Buffer::new();
+        self.text(digits.format(number))
+    }
+
+    fn hex_byte(&mut self, byte: u8) -> Result<(), OutOfMemory>
+        ensures { OnOk result (self.new ≡ self.old ++ hex byte) }
+    {
+        let digits = [digit_of(byte / 16), digit_of(byte % 16)];
+        self.bytes.extend_from_slice(&digits)?;
+        Ok(())
+    }
+
+    /// Adds bytes in hexadecimal.
+    pub fn hex(&mut self, bytes: &[u8]) -> Result<(), OutOfMemory>
+        ensures { OnOk result (self.new ≡ self.old ++ hex_text bytes.now) }
+    {
+        for byte in bytes {
+            self.hex_byte(*byte)?;
+        }
+        Ok(())
+    }
+
+    /// Adds a space and a word.
+    pub fn word(&mut self, text: &str) -> Result<(), OutOfMemory>
+        ensures { OnOk result (self.new ≡ word self.old text.now) }
+    {
+        self.text(" ")?;
+        self.text(text)
+    }
+
+    pub fn number(&mut self, number: u64) -> Result<(), OutOfMemory>
+        ensures { OnOk result (self.new ≡ word self.old (decimal number)) }
+    {
+        self.text(" ")?;
+        self.digits(number)
+    }
+
+    pub fn optional_number(&mut self, number: Option<u32>) -> Result<(), OutOfMemory>
+        ensures { OnOk result (self.new ≡ word self.old (optional_text number)) }
+    {
+        match number {
+            None => self.word("-"),
+            Some(number) => self.number(u64::from(number)),
+        }
+    }
+
+    pub fn filter(&mut self, number: u64) -> Result<(), OutOfMemory>
+        ensures { OnOk result (self.new ≡ word self.old (filter_text number)) }
+    {
+        self.word("f")?;
+        self.digits(number)
+    }
+
+    pub fn binding(&mut self, number: u32) -> Result<(), OutOfMemory>
+        ensures { OnOk result (self.new ≡ word self.old (binding_text number)) }
+    {
+        self.word("b")?;
+        self.digits(u64::from(number))
+    }
+
+    pub fn module(&mut self, module_id: ModuleId) -> Result<(), OutOfMemory>
+        ensures { OnOk result (self.new ≡ word self.old (module_text module_id)) }
+    {
+        match module_id {
+            ModuleId::Miniport => self.word("m"),
+            ModuleId::Filter(number) => self.filter(number),
+            ModuleId::Binding(number) => self.binding(number),
+        }
+    }
+
+    pub fn target(&mut self, target: Target) -> Result<(), OutOfMemory>
+        ensures { OnOk result (self.new ≡ word self.old (target_text target)) }
+    {
+        match target {
+            Target::Module(module_id) => self.module(module_id),
+            Target::Bindings => self.word("b"),
+        }
+    }
+
+    pub fn address(&mut self, address: &[u8; 6]) -> Result<(), OutOfMemory>
+        ensures { OnOk result (self.new ≡ word self.old (hex_text address.now)) }
+    {
+        self.text(" ")?;
+        self.hex(address)
+    }
+
+    #[tactic(auto, unfolding(crate::specs::Words::code_text))]
+    pub fn code(&mut self, code: u32) -> Result<(), OutOfMemory>
+        ensures { OnOk result (self.new ≡ word self.old (code_text code)) }
+    {
+        let bytes = [
+            (code / 16_777_216) as u8,
+            (code / 65_536 % 256) as u8,
+            (code / 256 % 256) as u8,
+            (code % 256) as u8,
+        ];
+        self.text(" ")?;
+        self.hex(&bytes)
+    }
+
+    fn hex_or_dash(&mut self, bytes: &[u8]) -> Result<(), OutOfMemory>
+        ensures { OnOk result (self.new ≡ word self.old (value_text bytes.now)) }
+    {
+        if bytes.is_empty() {
+            return self.word("-");
+        }
+        self.text(" ")?;
+        self.hex(bytes)
+    }
+
+    pub fn value(&mut self, value: &OidValue) -> Result<(), OutOfMemory>
+        ensures { OnOk result (self.new ≡ word self.old (value_text value.now)) }
+    {
+        self.hex_or_dash(value.bytes())
+    }
+
+    fn more_frames(&mut self, frames: &[Frame]) -> Result<(), OutOfMemory>
+        ensures { OnOk result (self.new ≡ self.old ++ more_frames_text frames.now) }
+    {
+        for frame in frames {
+            self.text("/")?;
+            self.hex(frame.bytes())?;
+        }
+        Ok(())
+    }
+
+    pub fn frames(&mut self, frames: &Frames) -> Result<(), OutOfMemory>
+        ensures { OnOk result (self.new ≡ word self.old (frames_text frames.now)) }
+    {
+        match frames.items() {
+            [] => self.word("-"),
+            [first, more @ ..] => {
+                self.text(" ")?;
+                self.hex(first.bytes())?;
+                self.more_frames(more)
+            }
+        }
+    }
+
+    fn letter(&mut self, letter: &str, is_there: bool) -> Result<(), OutOfMemory>
+        ensures { OnOk result (self.new ≡ self.old ++ (if is_there then letter.now else [])) }
+    {
+        if is_there { self.text(letter) } else { Ok(()) }
+    }
+
+    pub fn handlers(&mut self, handlers: Handlers) -> Result<(), OutOfMemory>
+        ensures { OnOk result (self.new ≡ word self.old (handlers_text handlers)) }
+    {
+        if !(handlers.send || handlers.receive || handlers.oid || handlers.status) {
+            return self.word("-");
+        }
+        self.text(" ")?;
+        self.letter("s", handlers.send)?;
+        self.letter("r", handlers.receive)?;
+        self.letter("o", handlers.oid)?;
+        self.letter("t", handlers.status)
+    }
+}

@@ -1,6 +1,0 @@
-use Rattle.std.proofs.Common.{◌≡◌, ◌++◌, take}
-use Rattle.ndis_journal.specs.Programs.{more_rules_text}
-use Rattle.ndis_journal.proofs.programs.push_more_rules.Given as goal
-
-abbrev pub invariant-loop-rule : goal.invariant-loop-rule
-invariant-loop-rule l = l.line ≡ l.initial.line ++ more_rules_text (take l.rule-index l.rules)

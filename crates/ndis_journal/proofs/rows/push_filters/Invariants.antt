@@ -1,6 +1,0 @@
-use Rattle.std.proofs.Common.{◌≡◌, take, map}
-use Rattle.ndis_journal.specs.Words.{spaced, filter_text}
-use Rattle.ndis_journal.proofs.rows.push_filters.Given as goal
-
-abbrev pub invariant-loop-filter : goal.invariant-loop-filter
-invariant-loop-filter l = l.line ≡ spaced l.initial.line (map filter_text (take l.filter-index l.filters))
