@@ -1,0 +1,4 @@
+pub mod Registers
+pub mod Histories
+pub mod Homes
+pub mod Agreed
