@@ -1,7 +1,6 @@
 -- The register agrees with the state after each row that fits.
-use Rattle.std.proofs.Common.{◌≡◌, ℕ, ◌+◌, ◌==◌, ◌<◌, ◌≤◌, not, Bool, true, false, cond, List, [], ◌∷◌, ◌++◌, Option, Some, None, option_map, refl, arith, subst, sym, ap, ◌∙◌}
+use Rattle.std.proofs.Common.{◌≡◌, ℕ, ◌+◌, ◌==◌, Bool, true, false, cond, List, [], ◌∷◌, ◌++◌, Option, Some, None, refl, arith, sym, ap, ◌∙◌}
 use Rattle.std.proofs.lemmas.Bool.Decides.{nat_tests}
-use Rattle.ndis_base.specs.declared.ListNo.{ListNo}
 use Rattle.ndis_base.specs.declared.ModuleId.{ModuleId}
 use Rattle.journal_types.specs.declared.Event.{Event}
 use Rattle.journal_types.specs.declared.Event.TheVariants as event
@@ -17,14 +16,14 @@ use Rattle.journal_types.specs.declared.Target.{Target}
 use Rattle.stack_rules.specs.declared.LiveList.{LiveList}
 use Rattle.stack_rules.specs.declared.Stand.TheVariants as stand
 use Rattle.stack_rules.specs.declared.Thing.TheVariants as thing
-use Rattle.stack_rules.specs.Net.{Net, start, after, after_rows, told, lists, list_of, had_by, taken_by, kept_by, passed_to, request_of, things_done}
-use Rattle.rule_basics.specs.Live.{IsApart, others, retouched, with_last, Each, is_live}
+use Rattle.stack_rules.specs.Net.{Net, start, after, after_rows, told, lists, list_of, had_by, taken_by, kept_by, passed_to, request_of}
+use Rattle.rule_basics.specs.Live.{others, retouched, with_last}
 use Rattle.rule_basics.specs.Numbers.{IsNumbered, IssuesNext}
 use Rattle.rule_basics.proofs.Lists.{lists-append, lists-without, lists-changed, lists-kept, lists-passed}
 use Rattle.rule_basics.proofs.Lives.{find_is}
 use Rattle.rule_basics.proofs.Numbered.{numbered_after, numbered_start, lists-without_status, lists-status, lists-things_done}
 use Rattle.home_laws.specs.Rows.{Label}
-use Rattle.home_laws.specs.Registers.{Register, empty, entered, registered, registered_rows, IsLive, Fits, AllFit, IsSane}
+use Rattle.home_laws.specs.Registers.{Register, empty, registered, registered_rows, Fits, AllFit, IsSane}
 use Rattle.home_laws.specs.Standing.{label_of}
 use Rattle.home_laws.proofs.Registers.{is_same, sane_after, next_is_free}
 

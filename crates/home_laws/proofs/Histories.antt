@@ -1,6 +1,5 @@
 -- What the register says of the rows that led to it.
-use Rattle.std.proofs.Common.{◌≡◌, ℕ, ◌+◌, ◌==◌, ◌<◌, ◌≤◌, Bool, true, false, cond, List, [], ◌∷◌, ◌++◌, Option, Some, None, refl, arith, subst, sym, ap, ◌∙◌, ◌⊎◌, inl, inr, Contains}
-use Rattle.std.proofs.lemmas.Bool.{cases_lt}
+use Rattle.std.proofs.Common.{◌≡◌, ℕ, ◌+◌, ◌==◌, ◌<◌, ◌≤◌, Bool, true, false, cond, List, [], ◌∷◌, ◌++◌, Option, Some, None, refl, arith, subst, sym, ap, ◌⊎◌, inl, inr}
 use Rattle.std.proofs.lemmas.Bool.Decides.{nat_tests}
 use Rattle.std.proofs.lemmas.List.Elements.{Contains-append_left, Contains-push}
 use Rattle.ndis_base.specs.declared.ConfigNo.{ConfigNo}
@@ -11,8 +10,8 @@ use Rattle.journal_types.specs.declared.Row.{Row}
 use Rattle.journal_types.specs.declared.Row.TheVariants as row
 use Rattle.stack_rules.specs.Outcome.{list_no}
 use Rattle.home_laws.specs.Rows.{Label, issue_row, IsIssued, IsHome}
-use Rattle.home_laws.specs.Registers.{Register, empty, entered, registered, registered_rows, Fits, AllFit, IsSane}
-use Rattle.home_laws.proofs.Registers.{is_same, sane_after, next_is_free}
+use Rattle.home_laws.specs.Registers.{Register, empty, entered, registered, registered_rows, Fits, AllFit}
+use Rattle.home_laws.proofs.Registers.{is_same}
 
 -- each live list was issued with its label; each number that was given out is live or home
 pub record Tells (rows : List Row) (reg : Register) : Type 0 where

@@ -1,8 +1,7 @@
 -- The laws, of rows that all fit.
-use Rattle.std.proofs.Common.{◌≡◌, ℕ, ◌+◌, ◌==◌, ◌<◌, ◌≤◌, Bool, true, false, cond, List, [], ◌∷◌, ◌++◌, Option, Some, None, refl, arith, subst, sym, ap, ◌∙◌, ◌⊎◌, inl, inr, All, count_by}
+use Rattle.std.proofs.Common.{◌≡◌, ℕ, ◌+◌, ◌==◌, ◌<◌, ◌≤◌, Bool, true, false, cond, List, [], ◌∷◌, ◌++◌, Option, Some, None, refl, arith, subst, sym, ap, ◌∙◌, All, count_by}
 use Rattle.std.proofs.lemmas.Bool.Decides.{nat_tests}
 use Rattle.std.proofs.lemmas.List.Elements.{All-nil, All-cons}
-use Rattle.ndis_base.specs.declared.ConfigNo.{ConfigNo}
 use Rattle.ndis_base.specs.declared.ListNo.{ListNo}
 use Rattle.ndis_base.specs.declared.ListStatus.{ListStatus}
 use Rattle.ndis_base.specs.declared.ModuleId.{ModuleId}
@@ -11,10 +10,10 @@ use Rattle.journal_types.specs.declared.Row.{Row}
 use Rattle.journal_types.specs.declared.Row.TheVariants as row
 use Rattle.rule_basics.proofs.Counts.{count_by-cons, one_if}
 use Rattle.home_laws.specs.Rows.{names, is_issue_of, is_home_of, Label, issue_row, IsIssued, IsIssuedBy, IsIssuedWith}
-use Rattle.home_laws.specs.Homes.{IsSilent, IsNew, EachIssuedOnce, EachNamedAfterIssue, ComesHome, EachHomeAtOwner, EachHomeOnce, ShowsIssued, EachShowsIssued}
-use Rattle.home_laws.specs.Registers.{Register, empty, entered, registered, registered_rows, IsLive, AnyLabel, Fits, AllFit, IsSane}
+use Rattle.home_laws.specs.Homes.{IsSilent, EachIssuedOnce, EachNamedAfterIssue, EachHomeAtOwner, EachHomeOnce, ShowsIssued, EachShowsIssued}
+use Rattle.home_laws.specs.Registers.{Register, empty, registered, registered_rows, IsLive, Fits, AllFit, IsSane}
 use Rattle.home_laws.proofs.Registers.{entered-here, entered-other, clash, is_same, live_below, sane_empty, sane_after, sane_rows, AllFit-front, AllFit-back, next_after, next_rows}
-use Rattle.home_laws.proofs.Histories.{Tells, tells_rows}
+use Rattle.home_laws.proofs.Histories.{tells_rows}
 
 -- the list was issued and is live no more
 record IsGone (reg : Register) (list : ListNo) : Type 0 where

@@ -1,5 +1,5 @@
 -- The register has each live list as it is, and rows that name such a list fit.
-use Rattle.std.proofs.Common.{◌≡◌, ℕ, ◌+◌, ◌==◌, ◌<◌, Bool, true, false, cond, List, [], ◌∷◌, ◌++◌, Option, Some, None, find, filter, refl, arith, subst, sym, ap, ◌∙◌}
+use Rattle.std.proofs.Common.{◌≡◌, ℕ, ◌+◌, ◌==◌, ◌<◌, Bool, true, false, cond, List, [], ◌∷◌, Some, None, find, filter, refl, arith, subst, sym, ap, ◌∙◌}
 use Rattle.std.proofs.lemmas.Bool.Decides.{nat_tests}
 use Rattle.ndis_base.specs.declared.Direction.{Direction}
 use Rattle.ndis_base.specs.declared.Direction.TheVariants as direction
@@ -7,7 +7,6 @@ use Rattle.ndis_base.specs.declared.ListNo.{ListNo}
 use Rattle.ndis_base.specs.declared.ListStatus.{ListStatus}
 use Rattle.ndis_base.specs.declared.ModuleId.{ModuleId}
 use Rattle.journal_types.specs.declared.Row.{Row}
-use Rattle.journal_types.specs.declared.Row.TheVariants as row
 use Rattle.stack_rules.specs.declared.LiveList.{LiveList}
 use Rattle.stack_rules.specs.declared.Thing.{Thing}
 use Rattle.stack_rules.specs.declared.Thing.TheVariants as thing
@@ -20,8 +19,8 @@ use Rattle.rule_basics.proofs.Each.{Each-implies}
 use Rattle.home_laws.specs.Rows.{Label}
 use Rattle.home_laws.specs.Registers.{Register, entered, IsLive, AnyLabel, AllFit, IsSane}
 use Rattle.home_laws.specs.Standing.{label_of}
-use Rattle.home_laws.proofs.Registers.{entered-here, entered-other, is_other, live_below}
-use Rattle.home_laws.proofs.Agreed.{Agrees, label_at, label_in}
+use Rattle.home_laws.proofs.Registers.{entered-here, entered-other, live_below}
+use Rattle.home_laws.proofs.Agreed.{Agrees, label_in}
 
 -- a goal about a choice, by its cases
 pub by_test : {A : Type 0} (P : A → Type 0) (b : Bool) (x y : A) → (b ≡ true → P x) → (b ≡ false → P y) → P (cond b x y)

@@ -5,3 +5,8 @@ pub mod Agreed
 pub mod Known
 pub mod Quiet
 pub mod Sends
+pub mod Deliveries
+pub mod Dones
+pub mod Pumps
+pub mod Events
+pub mod Standing

@@ -1,6 +1,5 @@
 -- Rows that name no list fit: those of pauses, changes of filters, requests and statuses.
-use Rattle.std.proofs.Common.{◌≡◌, ℕ, ◌+◌, ◌==◌, ◌||◌, nat_lt, Bool, true, false, cond, List, [], ◌∷◌, ◌++◌, Option, Some, None, length, map, filter, reverse, get_or, insert, refl}
-use Rattle.ndis_base.specs.declared.FilterKind.{FilterKind}
+use Rattle.std.proofs.Common.{ℕ, ◌+◌, ◌==◌, ◌||◌, nat_lt, Bool, true, false, cond, List, [], ◌∷◌, ◌++◌, length, map, reverse, get_or}
 use Rattle.ndis_base.specs.declared.ModuleId.{ModuleId}
 use Rattle.ndis_base.specs.declared.ModuleId.TheVariants.{Miniport, Filter, Binding}
 use Rattle.ndis_base.specs.declared.ModuleState.{ModuleState}
@@ -22,7 +21,7 @@ use Rattle.stack_rules.specs.declared.Request.{Request}
 use Rattle.stack_rules.specs.Net.{Net}
 use Rattle.stack_rules.specs.Outcome.{Outcome, refused, config_no, max_filters}
 use Rattle.stack_rules.specs.Places.{outstanding, state_of}
-use Rattle.stack_rules.specs.Pauses.{binding_ids, floors, live_items, halt_items, halt_rows, state_row, state_rows, initialize_outcome, begin_outcome, pause_outcome, pause_at, paused_rows, first_unpaused, restart_outcome, restart_at, restart_rows, restarting, is_top, running_floors, halt_outcome}
+use Rattle.stack_rules.specs.Pauses.{binding_ids, floors, live_items, halt_items, halt_rows, state_row, state_rows, initialize_outcome, begin_outcome, pause_outcome, pause_at, paused_rows, first_unpaused, restart_outcome, restart_rows, restarting, is_top, running_floors, halt_outcome}
 use Rattle.stack_rules.specs.Requests.{Giving, given_rows_by, giving_rows, ask_outcome}
 use Rattle.stack_rules.specs.Tests.{is_halted, is_unbound, phase_is_halted, phase_is_paused, phase_is_restarting, phase_is_running, phase_is_pausing}
 use Rattle.stack_rules.specs.Rewires.{is_in, is_bad_position, when_attached, when_quiet, inserted, insert_outcome, removed, remove_outcome, replaced, replace_outcome}

@@ -1,14 +1,13 @@
 -- The register of lists after each row that fits.
-use Rattle.std.proofs.Common.{◌≡◌, ℕ, ◌+◌, ◌==◌, ◌<◌, ◌≤◌, Bool, true, false, cond, List, [], ◌∷◌, ◌++◌, Option, Some, None, refl, arith, subst, sym, ap, ◌∙◌, ◌⊎◌, inl, inr}
+use Rattle.std.proofs.Common.{◌≡◌, ℕ, ◌+◌, ◌==◌, ◌<◌, ◌≤◌, Bool, true, false, cond, List, [], ◌∷◌, ◌++◌, Option, Some, None, refl, arith, subst, sym, ◌∙◌, ◌⊎◌, inl, inr}
 use Rattle.std.proofs.lemmas.Bool.{cases_lt}
 use Rattle.std.proofs.lemmas.Bool.Decides.{nat_tests}
-use Rattle.ndis_base.specs.declared.ListNo.{ListNo}
 use Rattle.ndis_base.specs.declared.Origin.{Origin}
 use Rattle.ndis_base.specs.declared.Origin.TheVariants as origin
 use Rattle.journal_types.specs.declared.Row.{Row}
 use Rattle.journal_types.specs.declared.Row.TheVariants as row
 use Rattle.home_laws.specs.Rows.{Label}
-use Rattle.home_laws.specs.Registers.{Register, empty, entered, registered, registered_rows, IsLive, AnyLabel, IsOriginLive, Fits, AllFit, IsYounger, IsSane}
+use Rattle.home_laws.specs.Registers.{Register, empty, entered, registered, registered_rows, IsOriginLive, Fits, AllFit, IsYounger, IsSane}
 
 -- the entries after one is changed
 pub entered-here : (n : ℕ) (entry : Option Label) (live : ℕ → Option Label) → entered n entry live n ≡ entry

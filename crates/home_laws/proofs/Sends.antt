@@ -1,5 +1,5 @@
 -- The rows of sends and of what the miniport transmits fit, and those of a filter that is given a list.
-use Rattle.std.proofs.Common.{◌≡◌, ℕ, ◌+◌, ◌&&◌, Bool, true, false, cond, List, [], ◌∷◌, ◌++◌, Option, Some, None, refl}
+use Rattle.std.proofs.Common.{◌≡◌, ℕ, ◌&&◌, Bool, true, false, cond, List, [], ◌∷◌, ◌++◌, Option, Some, None, refl}
 use Rattle.ndis_base.specs.declared.Direction.{Direction}
 use Rattle.ndis_base.specs.declared.Direction.TheVariants as direction
 use Rattle.ndis_base.specs.declared.ListStatus.TheVariants.{Success, Resources, Dropped}
@@ -15,7 +15,7 @@ use Rattle.stack_rules.specs.Places.{is_full, position, kept_lists, is_kept_by}
 use Rattle.stack_rules.specs.Targets.{onward, homeward}
 use Rattle.stack_rules.specs.Outcome.{Outcome, root, list_no}
 use Rattle.stack_rules.specs.Handled.{cloned, stays, changes, made_of, handled_as, filter_rows}
-use Rattle.stack_rules.specs.Sends.{send_outcome, ring_is_full, miniport_rows, at_filter, down_rows, loops, looped, transmitted, transmit_of, first_of, first_in_ring, transmit_outcome}
+use Rattle.stack_rules.specs.Sends.{send_outcome, ring_is_full, miniport_rows, at_filter, down_rows, loops, transmitted, transmit_of, first_of, first_in_ring, transmit_outcome}
 use Rattle.rule_basics.specs.Live.{Each}
 use Rattle.home_laws.specs.Rows.{Label}
 use Rattle.home_laws.specs.Registers.{Register, AllFit, IsSane}
@@ -58,8 +58,7 @@ miniport_fits net reg l k =
 cloned_fits : (net : Net) (reg : Register) (a : Attached) (l : LiveList) (frames : List (List ℕ)) → Agrees net reg → IsSane reg → Knows reg l → AllFit reg (cloned net a l frames)
 cloned_fits net reg a l frames h s k =
     let label : Label = record { owner = Filter a.filter; direction = l.direction; cancel = l.cancel; origin = origin.Clone l.list; frames = frames } in
-    let more : Register = with_new reg net.next.list label in
-    (
+    let more : Register = with_new reg net.next.list label in (
       (h.next, live_as reg l k),
       (
         live_as more l (still_known reg net.next.list label l s h.next k),
@@ -98,11 +97,13 @@ down_fits net reg l (Binding b) keeps h s k = tt
 pub transmitted_fits : (net : Net) (reg : Register) (l : LiveList) → Agrees net reg → IsSane reg → Knows reg l → AllFit reg (transmitted net l)
 transmitted_fits net reg l h s k =
     let last : Row = homeward net.modules l (position net.modules.order Miniport) Success in
-    let label : Label = root_label Miniport direction.Up None l.frames in
-    (framed_as reg l k, by_test (λ rows. AllFit reg (rows ++ last ∷ [])) (loops net) _ _
-    (λ _. issued_fits net reg net.next.list Miniport direction.Up None l.frames _ (last ∷ []) h.next
-    (homeward_fits (with_new reg net.next.list label) net.modules l _ Success [] (still_known reg net.next.list label l s h.next k) tt))
-    (λ _. homeward_fits reg net.modules l _ Success [] k tt))
+    let label : Label = root_label Miniport direction.Up None l.frames in (
+      framed_as reg l k,
+      by_test (λ rows. AllFit reg (rows ++ last ∷ [])) (loops net) _ _
+          (λ _. issued_fits net reg net.next.list Miniport direction.Up None l.frames (position net.modules.order Miniport) (last ∷ []) h.next
+          (homeward_fits (with_new reg net.next.list label) net.modules l (position net.modules.order Miniport) Success [] (still_known reg net.next.list label l s h.next k) tt))
+          (λ _. homeward_fits reg net.modules l (position net.modules.order Miniport) Success [] k tt),
+    )
 
 -- a list that is found, if any, is known
 abbrev pub KnowsFound : Register → Option LiveList → Type 0

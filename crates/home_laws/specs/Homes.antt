@@ -1,7 +1,7 @@
 -- What holds of the rows of each sound journal: each list is issued once, comes home at most once and to
 -- its owner, and its frames stay as they were issued. Each is told of a row at any place: of the rows
 -- before it and of the rows after it.
-use Rattle.std.specs.Prelude.{◌≡◌, ℕ, ◌≤◌, true, false, List, ◌∷◌, ◌++◌, count_by, All}
+use Rattle.std.specs.Prelude.{◌≡◌, ◌≤◌, true, false, List, ◌∷◌, ◌++◌, count_by, All}
 use Rattle.ndis_base.specs.declared.ListNo.{ListNo}
 use Rattle.ndis_base.specs.declared.ListStatus.{ListStatus}
 use Rattle.ndis_base.specs.declared.ModuleId.{ModuleId}

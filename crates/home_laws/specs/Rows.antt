@@ -1,5 +1,5 @@
 -- The rows of a journal, and the list that a row names.
-use Rattle.std.specs.Prelude.{ℕ, ◌==◌, Bool, true, false, List, Option}
+use Rattle.std.specs.Prelude.{ℕ, ◌==◌, Bool, false, List, Option}
 use Rattle.std.specs.List.{flat_map, Contains}
 use Rattle.ndis_base.specs.declared.ConfigNo.{ConfigNo}
 use Rattle.ndis_base.specs.declared.Direction.{Direction}

@@ -1,6 +1,5 @@
 -- What is known of the live lists after each turn of a sound journal.
 use Rattle.std.specs.Prelude.{◌≡◌, ℕ, ◌<◌, ◌≤◌, true, List, ◌⊎◌}
-use Rattle.ndis_base.specs.declared.ListNo.{ListNo}
 use Rattle.journal_types.specs.declared.Row.{Row}
 use Rattle.journal_types.specs.declared.StackHead.{StackHead}
 use Rattle.journal_types.specs.declared.Turn.{Turn}
