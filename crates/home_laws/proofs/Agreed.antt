@@ -23,7 +23,7 @@ use Rattle.rule_basics.proofs.Lists.{lists-append, lists-without, lists-changed,
 use Rattle.rule_basics.proofs.Lives.{find_is}
 use Rattle.rule_basics.proofs.Numbered.{numbered_after, numbered_start, lists-without_status, lists-status, lists-things_done}
 use Rattle.home_laws.specs.Rows.{Label}
-use Rattle.home_laws.specs.Registers.{Register, empty, registered, registered_rows, Fits, AllFit, IsSane}
+use Rattle.home_laws.proofs.Fits.{Register, empty, registered, registered_rows, Fits, AllFit, IsSane}
 use Rattle.home_laws.specs.Standing.{label_of}
 use Rattle.home_laws.proofs.Registers.{is_same, sane_after, next_is_free}
 

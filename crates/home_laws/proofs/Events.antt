@@ -14,14 +14,18 @@ use Rattle.stack_rules.specs.Rewires.{insert_outcome, remove_outcome, replace_ou
 use Rattle.stack_rules.specs.Statuses.{status_outcome}
 use Rattle.stack_rules.specs.Sound.{outcome, Next, SoundFrom, Sound}
 use Rattle.home_laws.specs.Rows.{rows_of}
-use Rattle.home_laws.specs.Registers.{Register, empty, registered_rows, AllFit, IsSane}
+use Rattle.home_laws.proofs.Fits.{Register, empty, registered_rows, AllFit, IsSane}
 use Rattle.home_laws.proofs.Registers.{sane_empty, sane_rows, AllFit-append, registered_rows-append}
 use Rattle.home_laws.proofs.Agreed.{Agrees, agrees_rows, agrees_start, agrees_told}
 use Rattle.home_laws.proofs.Quiet.{QuietOutcome, quiet_fit, initialize_quiet, begin_quiet, pause_quiet, restart_quiet, halt_quiet, insert_quiet, remove_quiet, replace_quiet, ask_quiet, status_quiet}
-use Rattle.home_laws.proofs.Sends.{FitOutcome, send_fits, transmit_fits}
-use Rattle.home_laws.proofs.Deliveries.{indicate_fits, lend_fits, give_back_fits}
-use Rattle.home_laws.proofs.Dones.{cancel_fits, take_fits, put_fits, done_fits, take_up_fits, put_up_fits}
-use Rattle.home_laws.proofs.Pumps.{pump_fits, drain_fits}
+use Rattle.home_laws.proofs.Issues.{FitOutcome}
+use Rattle.home_laws.proofs.Sends.{send_fits, transmit_fits}
+use Rattle.home_laws.proofs.Receives.{indicate_fits, give_back_fits}
+use Rattle.home_laws.proofs.Lends.{lend_fits}
+use Rattle.home_laws.proofs.Cancels.{cancel_fits}
+use Rattle.home_laws.proofs.Crosses.{take_fits, put_fits, done_fits, take_up_fits, put_up_fits}
+use Rattle.home_laws.proofs.Pumps.{pump_fits}
+use Rattle.home_laws.proofs.Drains.{drain_fits}
 
 quiet_outcome : (reg : Register) (o : Outcome) → QuietOutcome o → FitOutcome reg o
 quiet_outcome reg o q = quiet_fit reg o.rows q

@@ -10,7 +10,7 @@ use Rattle.journal_types.specs.declared.Row.{Row}
 use Rattle.journal_types.specs.declared.Row.TheVariants as row
 use Rattle.stack_rules.specs.Outcome.{list_no}
 use Rattle.home_laws.specs.Rows.{Label, issue_row, IsIssued, IsHome}
-use Rattle.home_laws.specs.Registers.{Register, empty, entered, registered, registered_rows, Fits, AllFit}
+use Rattle.home_laws.proofs.Fits.{Register, empty, entered, registered, registered_rows, Fits, AllFit}
 use Rattle.home_laws.proofs.Registers.{is_same}
 
 -- each live list was issued with its label; each number that was given out is live or home

@@ -9,9 +9,10 @@ use Rattle.journal_types.specs.declared.OutWay.TheVariants as out
 use Rattle.journal_types.specs.declared.Row.{Row}
 use Rattle.journal_types.specs.declared.Row.TheVariants as row
 use Rattle.rule_basics.proofs.Counts.{count_by-cons, one_if}
-use Rattle.home_laws.specs.Rows.{names, is_issue_of, is_home_of, Label, issue_row, IsIssued, IsIssuedBy, IsIssuedWith}
+use Rattle.home_laws.specs.Rows.{names, is_issue_of, is_home_of, Label, issue_row, IsIssuedWith}
 use Rattle.home_laws.specs.Homes.{IsSilent, EachIssuedOnce, EachNamedAfterIssue, EachHomeAtOwner, EachHomeOnce, ShowsIssued, EachShowsIssued}
-use Rattle.home_laws.specs.Registers.{Register, empty, registered, registered_rows, IsLive, Fits, AllFit, IsSane}
+use Rattle.home_laws.specs.Standing.{IsAway}
+use Rattle.home_laws.proofs.Fits.{Register, empty, registered, registered_rows, IsLive, Fits, AllFit, IsSane}
 use Rattle.home_laws.proofs.Registers.{entered-here, entered-other, clash, is_same, live_below, sane_empty, sane_after, sane_rows, AllFit-front, AllFit-back, next_after, next_rows}
 use Rattle.home_laws.proofs.Histories.{tells_rows}
 
@@ -137,14 +138,6 @@ named_after_issue rows f before later r list e n h =
     let live = named_live (registered_rows empty before) r list p.here n h in
     (live.0, (tells_rows before p.front).issued list.0 live.0 live.1)
 
-issued_by : (rows : List Row) (list : ListNo) (label : Label) (owner : ModuleId) → label.owner ≡ owner → IsIssued rows list label → IsIssuedBy rows list owner
-issued_by rows list label owner e h =
-    subst (IsIssuedBy rows list) e (record { config = h.config; direction = label.direction; cancel = label.cancel; origin = label.origin; frames = label.frames; here = h.here })
-
-issued_with : (rows : List Row) (list : ListNo) (label : Label) (frames : List (List ℕ)) → label.frames ≡ frames → IsIssued rows list label → IsIssuedWith rows list frames
-issued_with rows list label frames e h =
-    subst (IsIssuedWith rows list) e (record { owner = label.owner; config = h.config; direction = label.direction; cancel = label.cancel; origin = label.origin; here = h.here })
-
 gone_home : (reg : Register) (list : ListNo) (owner : ModuleId) (status : ListStatus) → IsSane reg → Fits reg (row.Home list owner status) → IsGone (registered reg (row.Home list owner status)) list
 gone_home reg list owner status s f = record { dead = entered-here list.0 None reg.live; old = live_below reg list.0 f.label s f.found }
 
@@ -153,7 +146,7 @@ home_at_owner rows f before later list owner status e =
     let p : IsPlace before (row.Home list owner status) later = place rows before _ later f e in
     let sane : IsSane (registered_rows empty before) = sane_rows empty before sane_empty p.front in
     record {
-      issued = issued_by before list p.here.label owner p.here.passes ((tells_rows before p.front).issued list.0 p.here.label p.here.found);
+      issued = (p.here.label, (tells_rows before p.front).issued list.0 p.here.label p.here.found, p.here.passes);
       silent = silent_rows _ later list p.back (gone_home (registered_rows empty before) list owner status sane p.here);
     }
 
@@ -193,9 +186,25 @@ once_home reg (r ∷ rows) list s f =
 pub home_once : (rows : List Row) → AllFit empty rows → EachHomeOnce rows
 home_once rows f list = once_home empty rows list sane_empty f
 
+-- a live list has no Home row
+gone_rows : (reg : Register) (rows : List Row) (list : ListNo) → AllFit reg rows → IsGone reg list → IsGone (registered_rows reg rows) list
+gone_rows reg [] list f g = g
+gone_rows reg (r ∷ rows) list f g = gone_rows (registered reg r) rows list f.1 (silent_row reg r list f.0 g).1
+
+away_row : (reg : Register) (r : Row) (rows : List Row) (list : ListNo) (label : Label) → IsSane reg → AllFit reg (r ∷ rows) → (registered_rows reg (r ∷ rows)).live list.0 ≡ Some label → (b : Bool) → is_home_of list r ≡ b → is_home_of list r ≡ false
+away_row reg r rows list label s f k true h =
+    absurd (clash ((registered_rows reg (r ∷ rows)).live list.0) label k (gone_rows (registered reg r) rows list f.1 (gone_after reg r list s f.0 h)).dead)
+away_row reg r rows list label s f k false h = h
+
+pub away_rows : (reg : Register) (rows : List Row) (list : ListNo) (label : Label) → IsSane reg → AllFit reg rows → (registered_rows reg rows).live list.0 ≡ Some label → IsAway rows list
+away_rows reg [] list label s f k = All-nil (λ r. is_home_of list r ≡ false)
+away_rows reg (r ∷ rows) list label s f k =
+    All-cons (λ x. is_home_of list x ≡ false) r rows (away_row reg r rows list label s f k (is_home_of list r) refl)
+    (away_rows (registered reg r) rows list label (sane_after reg r s f.0) f.1 k)
+
 -- rows with frames
 shows : (before : List Row) (list : ListNo) (frames : List (List ℕ)) → AllFit empty before → IsLive (registered_rows empty before) list (λ label. label.frames ≡ frames) → IsIssuedWith before list frames
-shows before list frames f h = issued_with before list h.label frames h.passes ((tells_rows before f).issued list.0 h.label h.found)
+shows before list frames f h = (h.label, (tells_rows before f).issued list.0 h.label h.found, h.passes)
 
 shows_row : (before : List Row) (r : Row) → AllFit empty before → Fits (registered_rows empty before) r → ShowsIssued before r
 shows_row before (row.Wire list frames) f h = shows before list frames f h

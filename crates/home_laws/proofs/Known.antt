@@ -17,7 +17,7 @@ use Rattle.stack_rules.specs.Targets.{onward, homeward, homeward_by, turned_back
 use Rattle.rule_basics.specs.Live.{IsApart, is_live, Each}
 use Rattle.rule_basics.proofs.Each.{Each-implies}
 use Rattle.home_laws.specs.Rows.{Label}
-use Rattle.home_laws.specs.Registers.{Register, entered, IsLive, AnyLabel, AllFit, IsSane}
+use Rattle.home_laws.proofs.Fits.{Register, entered, IsLive, AnyLabel, AllFit, IsSane}
 use Rattle.home_laws.specs.Standing.{label_of}
 use Rattle.home_laws.proofs.Registers.{entered-here, entered-other, live_below}
 use Rattle.home_laws.proofs.Agreed.{Agrees, label_in}

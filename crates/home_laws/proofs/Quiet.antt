@@ -26,7 +26,7 @@ use Rattle.stack_rules.specs.Requests.{Giving, given_rows_by, giving_rows, ask_o
 use Rattle.stack_rules.specs.Tests.{is_halted, is_unbound, phase_is_halted, phase_is_paused, phase_is_restarting, phase_is_running, phase_is_pausing}
 use Rattle.stack_rules.specs.Rewires.{is_in, is_bad_position, when_attached, when_quiet, inserted, insert_outcome, removed, remove_outcome, replaced, replace_outcome}
 use Rattle.stack_rules.specs.Statuses.{status_outcome, seen_by_all, status_rows}
-use Rattle.home_laws.specs.Registers.{Register, AllFit}
+use Rattle.home_laws.proofs.Fits.{Register, AllFit}
 use Rattle.home_laws.proofs.Known.{by_test}
 
 -- the row names no list

@@ -7,7 +7,8 @@ use Rattle.ndis_base.specs.declared.Origin.TheVariants as origin
 use Rattle.journal_types.specs.declared.Row.{Row}
 use Rattle.journal_types.specs.declared.Row.TheVariants as row
 use Rattle.home_laws.specs.Rows.{Label}
-use Rattle.home_laws.specs.Registers.{Register, empty, entered, registered, registered_rows, IsOriginLive, Fits, AllFit, IsYounger, IsSane}
+use Rattle.home_laws.specs.Standing.{IsYounger}
+use Rattle.home_laws.proofs.Fits.{Register, empty, entered, registered, registered_rows, IsOriginLive, Fits, AllFit, IsSane}
 
 -- the entries after one is changed
 pub entered-here : (n : ℕ) (entry : Option Label) (live : ℕ → Option Label) → entered n entry live n ≡ entry

@@ -1,5 +1,6 @@
 -- What is known of the live lists after each turn of a sound journal.
 use Rattle.std.proofs.Common.{◌≡◌, ℕ, ◌<◌, true, List, [], ◌∷◌, ◌++◌, Option, Some, None, refl, arith, ◌∙◌, ◌⊎◌, inl, inr}
+use Rattle.ndis_base.specs.declared.ListNo.{ListNo}
 use Rattle.journal_types.specs.declared.Row.{Row}
 use Rattle.journal_types.specs.declared.StackHead.{StackHead}
 use Rattle.journal_types.specs.declared.Turn.{Turn}
@@ -11,10 +12,11 @@ use Rattle.rule_basics.specs.Live.{is_live}
 use Rattle.rule_basics.proofs.Each.{Each-implies}
 use Rattle.rule_basics.proofs.Lives.{find_is}
 use Rattle.home_laws.specs.Rows.{Label, IsHome, rows_of}
-use Rattle.home_laws.specs.Registers.{Register, empty, registered_rows, IsSane}
-use Rattle.home_laws.specs.Standing.{label_of, Stands, ListsStand}
+use Rattle.home_laws.proofs.Fits.{Register, empty, registered_rows, IsSane}
+use Rattle.home_laws.specs.Standing.{label_of, IsAway, Stands, ListsStand}
 use Rattle.home_laws.proofs.Registers.{sane_empty, sane_rows}
 use Rattle.home_laws.proofs.Histories.{Tells, tells_rows}
+use Rattle.home_laws.proofs.Homes.{away_rows}
 use Rattle.home_laws.proofs.Agreed.{Agrees, label_in}
 use Rattle.home_laws.proofs.Known.{Knows, knows_all}
 use Rattle.home_laws.proofs.Events.{FitsAfter, journal_fits}
@@ -26,10 +28,11 @@ labelled_live n ls None label e f = absurd (none_some label f)
     none_some l e = cc
 labelled_live n ls (Some l) label e f = (find_is n ls l e).1
 
-stands : (rows : List Row) (net : Net) (reg : Register) → Agrees net reg → IsSane reg → Tells rows reg → Stands rows net
-stands rows net reg h s t = record {
+stands : (rows : List Row) (net : Net) (reg : Register) → Agrees net reg → IsSane reg → Tells rows reg → ((list : ListNo) (label : Label) → reg.live list.0 ≡ Some label → IsAway rows list) → Stands rows net
+stands rows net reg h s t away = record {
   numbered = h.numbered;
   issued = Each-implies (Knows reg) _ (λ l k. t.issued l.list.0 (label_of l) k) (lists net.things) (knows_all net reg h);
+  away = Each-implies (Knows reg) _ (λ l k. away l.list (label_of l) k) (lists net.things) (knows_all net reg h);
   younger = Each-implies (Knows reg) _ (λ l k. s.younger l.list.0 (label_of l) k) (lists net.things) (knows_all net reg h);
   all = λ n some low. live_or_home n (t.all n some (below n low));
 }
@@ -45,6 +48,7 @@ pub lists_stand : (head : StackHead) (turns : List Turn) → Sound head turns �
 lists_stand head turns n =
     let f : FitsAfter empty (rows_of turns) (seen head turns) = journal_fits head turns n in
     stands (rows_of turns) (seen head turns) (registered_rows empty (rows_of turns)) f.agrees (sane_rows empty (rows_of turns) sane_empty f.fit) (tells_rows (rows_of turns) f.fit)
+    (λ list label k. away_rows empty (rows_of turns) list label sane_empty f.fit k)
 
 -- the first turns of a sound journal are a sound journal
 front_from : (net : Net) (turns more : List Turn) → SoundFrom net (turns ++ more) → SoundFrom net turns

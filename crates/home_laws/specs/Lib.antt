@@ -1,4 +1,3 @@
 pub mod Rows
 pub mod Homes
-pub mod Registers
 pub mod Standing

@@ -1,5 +1,5 @@
 -- The rows of a journal, and the list that a row names.
-use Rattle.std.specs.Prelude.{ℕ, ◌==◌, Bool, false, List, Option}
+use Rattle.std.specs.Prelude.{◌≡◌, ℕ, ◌==◌, Bool, false, List, Option}
 use Rattle.std.specs.List.{flat_map, Contains}
 use Rattle.ndis_base.specs.declared.ConfigNo.{ConfigNo}
 use Rattle.ndis_base.specs.declared.Direction.{Direction}
@@ -56,23 +56,13 @@ pub record IsIssued (rows : List Row) (list : ListNo) (label : Label) : Type 0 w
   pub config : ConfigNo
   pub here : Contains rows (issue_row list config label)
 
--- among the rows is an Issue row of the list with this owner
-pub record IsIssuedBy (rows : List Row) (list : ListNo) (owner : ModuleId) : Type 0 where
-  pub config : ConfigNo
-  pub direction : Direction
-  pub cancel : Option ℕ
-  pub origin : Origin
-  pub frames : List (List ℕ)
-  pub here : Contains rows (row.Issue list owner config direction cancel origin frames)
+-- among the rows is an Issue row of the list, with this owner
+abbrev pub IsIssuedBy : List Row → ListNo → ModuleId → Type 0
+IsIssuedBy rows list owner = (label : Label) × IsIssued rows list label × (label.owner ≡ owner)
 
--- among the rows is an Issue row of the list with these frames
-pub record IsIssuedWith (rows : List Row) (list : ListNo) (frames : List (List ℕ)) : Type 0 where
-  pub owner : ModuleId
-  pub config : ConfigNo
-  pub direction : Direction
-  pub cancel : Option ℕ
-  pub origin : Origin
-  pub here : Contains rows (row.Issue list owner config direction cancel origin frames)
+-- among the rows is an Issue row of the list, with these frames
+abbrev pub IsIssuedWith : List Row → ListNo → List (List ℕ) → Type 0
+IsIssuedWith rows list frames = (label : Label) × IsIssued rows list label × (label.frames ≡ frames)
 
 -- among the rows is a Home row of the list
 pub record IsHome (rows : List Row) (list : ListNo) : Type 0 where

@@ -1,6 +1,6 @@
 -- The register of lists, told by the rows alone: the number that comes next, and the label of each live
 -- list. A row fits where the register allows it.
-use Rattle.std.specs.Prelude.{◌≡◌, ℕ, ◌+◌, ◌==◌, ◌<◌, ◌≤◌, List, [], ◌∷◌, Option, Some, None, if◌then◌else◌}
+use Rattle.std.proofs.Common.{◌≡◌, ℕ, ◌+◌, ◌==◌, ◌≤◌, List, [], ◌∷◌, Option, Some, None, cond}
 use Rattle.ndis_base.specs.declared.ListNo.{ListNo}
 use Rattle.ndis_base.specs.declared.Origin.{Origin}
 use Rattle.ndis_base.specs.declared.Origin.TheVariants as origin
@@ -8,6 +8,7 @@ use Rattle.journal_types.specs.declared.OutWay.TheVariants as out
 use Rattle.journal_types.specs.declared.Row.{Row}
 use Rattle.journal_types.specs.declared.Row.TheVariants as row
 use Rattle.home_laws.specs.Rows.{Label}
+use Rattle.home_laws.specs.Standing.{IsYounger}
 
 pub record Register : Type 0 where
   pub next : ℕ
@@ -19,7 +20,7 @@ empty = record { next = 1; live = λ n. None }
 
 -- another entry at a number
 abbrev pub entered : ℕ → Option Label → (ℕ → Option Label) → ℕ → Option Label
-entered n entry live m = if m == n then entry else live m
+entered n entry live m = cond (m == n) entry (live m)
 
 -- the register after one more row
 abbrev pub registered : Register → Row → Register
@@ -67,12 +68,6 @@ Fits reg _ = Unit {0}
 abbrev pub AllFit : Register → List Row → Type 0
 AllFit reg [] = Unit {0}
 AllFit reg (r ∷ rows) = Fits reg r × AllFit (registered reg r) rows
-
--- a list is younger than the one that it is made of
-abbrev pub IsYounger : ℕ → Origin → Type 0
-IsYounger n origin.Root = Unit {0}
-IsYounger n (origin.Clone list) = list.0 < n
-IsYounger n (origin.Copy list) = list.0 < n
 
 -- no number from the next one on is live, and each live list is younger than its origin
 pub record IsSane (reg : Register) : Type 0 where
