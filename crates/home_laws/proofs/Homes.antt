@@ -5,14 +5,15 @@ use Rattle.std.proofs.lemmas.List.Elements.{All-nil, All-cons}
 use Rattle.ndis_base.specs.declared.ListNo.{ListNo}
 use Rattle.ndis_base.specs.declared.ListStatus.{ListStatus}
 use Rattle.ndis_base.specs.declared.ModuleId.{ModuleId}
+use Rattle.ndis_base.specs.declared.Origin.{Origin}
+use Rattle.ndis_base.specs.declared.Origin.TheVariants as origin
 use Rattle.journal_types.specs.declared.OutWay.TheVariants as out
 use Rattle.journal_types.specs.declared.Row.{Row}
 use Rattle.journal_types.specs.declared.Row.TheVariants as row
 use Rattle.rule_basics.proofs.Counts.{count_by-cons, one_if}
-use Rattle.home_laws.specs.Rows.{names, is_issue_of, is_home_of, Label, issue_row, IsIssuedWith}
-use Rattle.home_laws.specs.Homes.{IsSilent, EachIssuedOnce, EachNamedAfterIssue, EachHomeAtOwner, EachHomeOnce, ShowsIssued, EachShowsIssued}
-use Rattle.home_laws.specs.Standing.{IsAway}
-use Rattle.home_laws.proofs.Fits.{Register, empty, registered, registered_rows, IsLive, Fits, AllFit, IsSane}
+use Rattle.home_laws.specs.Rows.{names, is_issue_of, is_home_of, Label, issue_row, IsIssuedWith, IsAway}
+use Rattle.home_laws.specs.Homes.{IsSilent, IsOut, IsOriginOut, EachIssuedOnce, EachNamedAfterIssue, EachOriginOut, EachHomeAtOwner, EachHomeOnce, ShowsIssued, EachShowsIssued}
+use Rattle.home_laws.proofs.Fits.{Register, empty, registered, registered_rows, IsLive, AnyLabel, IsOriginLive, Fits, AllFit, IsSane}
 use Rattle.home_laws.proofs.Registers.{entered-here, entered-other, clash, is_same, live_below, sane_empty, sane_after, sane_rows, AllFit-front, AllFit-back, next_after, next_rows}
 use Rattle.home_laws.proofs.Histories.{tells_rows}
 
@@ -201,6 +202,24 @@ away_rows reg [] list label s f k = All-nil (λ r. is_home_of list r ≡ false)
 away_rows reg (r ∷ rows) list label s f k =
     All-cons (λ x. is_home_of list x ≡ false) r rows (away_row reg r rows list label s f k (is_home_of list r) refl)
     (away_rows (registered reg r) rows list label (sane_after reg r s f.0) f.1 k)
+
+-- what a clone or a copy is made of
+out_of : (before : List Row) (list : ListNo) → AllFit empty before → IsLive (registered_rows empty before) list AnyLabel → IsOut before list
+out_of before list f h = record {
+  label = h.label;
+  issued = (tells_rows before f).issued list.0 h.label h.found;
+  away = away_rows empty before list h.label sane_empty f h.found;
+}
+
+origin_of : (before : List Row) (o : Origin) → AllFit empty before → IsOriginLive (registered_rows empty before) o → IsOriginOut before o
+origin_of before origin.Root f h = tt
+origin_of before (origin.Clone list) f h = out_of before list f h
+origin_of before (origin.Copy list) f h = out_of before list f h
+
+pub origin_out : (rows : List Row) → AllFit empty rows → EachOriginOut rows
+origin_out rows f before later list config label e =
+    let p : IsPlace before (issue_row list config label) later = place rows before _ later f e in
+    origin_of before label.origin p.front p.here.1
 
 -- rows with frames
 shows : (before : List Row) (list : ListNo) (frames : List (List ℕ)) → AllFit empty before → IsLive (registered_rows empty before) list (λ label. label.frames ≡ frames) → IsIssuedWith before list frames

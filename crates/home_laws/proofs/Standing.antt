@@ -11,9 +11,9 @@ use Rattle.stack_rules.specs.Sound.{Sound, SoundFrom}
 use Rattle.rule_basics.specs.Live.{is_live}
 use Rattle.rule_basics.proofs.Each.{Each-implies}
 use Rattle.rule_basics.proofs.Lives.{find_is}
-use Rattle.home_laws.specs.Rows.{Label, IsHome, rows_of}
+use Rattle.home_laws.specs.Rows.{Label, IsAway, IsHome, rows_of}
 use Rattle.home_laws.proofs.Fits.{Register, empty, registered_rows, IsSane}
-use Rattle.home_laws.specs.Standing.{label_of, IsAway, Stands, ListsStand}
+use Rattle.home_laws.specs.Standing.{label_of, Stands, ListsStand}
 use Rattle.home_laws.proofs.Registers.{sane_empty, sane_rows}
 use Rattle.home_laws.proofs.Histories.{Tells, tells_rows}
 use Rattle.home_laws.proofs.Homes.{away_rows}

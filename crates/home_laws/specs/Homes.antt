@@ -5,11 +5,13 @@ use Rattle.std.specs.Prelude.{◌≡◌, ◌≤◌, true, false, List, ◌∷◌
 use Rattle.ndis_base.specs.declared.ListNo.{ListNo}
 use Rattle.ndis_base.specs.declared.ListStatus.{ListStatus}
 use Rattle.ndis_base.specs.declared.ModuleId.{ModuleId}
+use Rattle.ndis_base.specs.declared.Origin.{Origin}
+use Rattle.ndis_base.specs.declared.Origin.TheVariants as origin
 use Rattle.ndis_base.specs.declared.ConfigNo.{ConfigNo}
 use Rattle.journal_types.specs.declared.OutWay.TheVariants as out
 use Rattle.journal_types.specs.declared.Row.{Row}
 use Rattle.journal_types.specs.declared.Row.TheVariants as row
-use Rattle.home_laws.specs.Rows.{names, is_issue_of, is_home_of, Label, issue_row, IsIssued, IsIssuedBy, IsIssuedWith}
+use Rattle.home_laws.specs.Rows.{names, is_issue_of, is_home_of, Label, issue_row, IsIssued, IsIssuedBy, IsIssuedWith, IsAway}
 
 -- no row names the list
 abbrev pub IsSilent : ListNo → List Row → Type 0
@@ -30,6 +32,22 @@ abbrev pub EachNamedAfterIssue : List Row → Type 0
 EachNamedAfterIssue rows =
     (before later : List Row) (r : Row) (list : ListNo) → rows ≡ before ++ r ∷ later →
     names list r ≡ true → is_issue_of list r ≡ false → (label : Label) × IsIssued before list label
+
+-- A clone or a copy is made of a list that was issued and isn't home.
+pub record IsOut (before : List Row) (list : ListNo) : Type 0 where
+  pub label : Label
+  pub issued : IsIssued before list label
+  pub away : IsAway before list
+
+abbrev pub IsOriginOut : List Row → Origin → Type 0
+IsOriginOut before origin.Root = Unit {0}
+IsOriginOut before (origin.Clone list) = IsOut before list
+IsOriginOut before (origin.Copy list) = IsOut before list
+
+abbrev pub EachOriginOut : List Row → Type 0
+EachOriginOut rows =
+    (before later : List Row) (list : ListNo) (config : ConfigNo) (label : Label) →
+    rows ≡ before ++ issue_row list config label ∷ later → IsOriginOut before label.origin
 
 -- A Home row of a list shows the owner of the list's Issue row, which stands before it, and no row after
 -- it names the list.

@@ -1,6 +1,6 @@
 -- The rows of a journal, and the list that a row names.
 use Rattle.std.specs.Prelude.{◌≡◌, ℕ, ◌==◌, Bool, false, List, Option}
-use Rattle.std.specs.List.{flat_map, Contains}
+use Rattle.std.specs.List.{flat_map, All, Contains}
 use Rattle.ndis_base.specs.declared.ConfigNo.{ConfigNo}
 use Rattle.ndis_base.specs.declared.Direction.{Direction}
 use Rattle.ndis_base.specs.declared.ListNo.{ListNo}
@@ -69,3 +69,7 @@ pub record IsHome (rows : List Row) (list : ListNo) : Type 0 where
   pub owner : ModuleId
   pub status : ListStatus
   pub here : Contains rows (row.Home list owner status)
+
+-- no row is a Home row of the list
+abbrev pub IsAway : List Row → ListNo → Type 0
+IsAway rows list = All (λ r. is_home_of list r ≡ false) rows

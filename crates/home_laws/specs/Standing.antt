@@ -1,6 +1,5 @@
 -- What is known of the live lists after each turn of a sound journal.
-use Rattle.std.specs.Prelude.{◌≡◌, ℕ, ◌<◌, ◌≤◌, true, false, List, ◌⊎◌, All}
-use Rattle.ndis_base.specs.declared.ListNo.{ListNo}
+use Rattle.std.specs.Prelude.{◌≡◌, ℕ, ◌<◌, ◌≤◌, true, List, ◌⊎◌}
 use Rattle.ndis_base.specs.declared.Origin.{Origin}
 use Rattle.ndis_base.specs.declared.Origin.TheVariants as origin
 use Rattle.journal_types.specs.declared.Row.{Row}
@@ -11,7 +10,7 @@ use Rattle.stack_rules.specs.Net.{Net, seen, lists}
 use Rattle.stack_rules.specs.Outcome.{list_no}
 use Rattle.rule_basics.specs.Live.{is_live, Each}
 use Rattle.rule_basics.specs.Numbers.{IsNumbered}
-use Rattle.home_laws.specs.Rows.{Label, is_home_of, IsIssued, IsHome, rows_of}
+use Rattle.home_laws.specs.Rows.{Label, IsIssued, IsAway, IsHome, rows_of}
 
 -- the label of a live list
 abbrev pub label_of : LiveList → Label
@@ -22,10 +21,6 @@ abbrev pub IsYounger : ℕ → Origin → Type 0
 IsYounger n origin.Root = Unit {0}
 IsYounger n (origin.Clone list) = list.0 < n
 IsYounger n (origin.Copy list) = list.0 < n
-
--- no row is a Home row of the list
-abbrev pub IsAway : List Row → ListNo → Type 0
-IsAway rows list = All (λ r. is_home_of list r ≡ false) rows
 
 -- The numbers of live lists differ and lie below the next one. Each live list has an Issue row that shows
 -- its label, has no Home row, and is younger than the list that it was made of. Each number that was given

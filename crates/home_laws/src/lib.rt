@@ -3,17 +3,19 @@
 #![tactic(auto)]
 
 ghost use Rattle.std.specs.Prelude.{List};
-ghost use Rattle.home_laws.specs.Homes.{EachHomeAtOwner, EachHomeOnce, EachIssuedOnce, EachNamedAfterIssue, EachShowsIssued};
+ghost use Rattle.home_laws.specs.Homes.{EachHomeAtOwner, EachHomeOnce, EachIssuedOnce, EachNamedAfterIssue, EachOriginOut, EachShowsIssued};
 ghost use Rattle.home_laws.specs.Rows.{rows_of};
 ghost use Rattle.home_laws.specs.Standing.{ListsStand};
 ghost use Rattle.journal_types.specs.declared.StackHead.{StackHead};
 ghost use Rattle.journal_types.specs.declared.Turn.{Turn};
 ghost use Rattle.stack_rules.specs.Sound.{Sound};
 
-/// Each list is issued once, and rows name it only after that.
+/// Each list is issued once, rows name it only after that, and a clone or a copy is made of a list that
+/// was issued and isn't home.
 pub fn lists_issued_once()
     ensures once { (head : StackHead) (turns : List Turn) → Sound head turns → EachIssuedOnce (rows_of turns) }
     ensures first { (head : StackHead) (turns : List Turn) → Sound head turns → EachNamedAfterIssue (rows_of turns) }
+    ensures origin { (head : StackHead) (turns : List Turn) → Sound head turns → EachOriginOut (rows_of turns) }
 {}
 
 /// Each list comes home at most once, after it was issued and to the owner that it was issued by, and
