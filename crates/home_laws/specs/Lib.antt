@@ -1,0 +1,3 @@
+pub mod Rows
+pub mod Homes
+pub mod Standing
