@@ -2,7 +2,7 @@
 //! its owner, is named by no row after that, and keeps its frames.
 #![tactic(auto)]
 
-ghost use Rattle.std.specs.Prelude.{List};
+ghost use Rattle.std.specs.Prelude.{◌++◌, List};
 ghost use Rattle.home_laws.specs.Homes.{EachHomeAtOwner, EachHomeOnce, EachIssuedOnce, EachNamedAfterIssue, EachOriginOut, EachShowsIssued};
 ghost use Rattle.home_laws.specs.Rows.{rows_of};
 ghost use Rattle.home_laws.specs.Standing.{ListsStand};
@@ -33,5 +33,5 @@ pub fn frames_as_issued()
 /// After each turn the live lists are those that were issued and aren't home, under numbers that differ
 /// and lie below the next one.
 pub fn lists_stand()
-    ensures { (head : StackHead) (turns : List Turn) → Sound head turns → ListsStand head turns }
+    ensures { (head : StackHead) (turns more : List Turn) → Sound head (turns ++ more) → ListsStand head turns }
 {}
