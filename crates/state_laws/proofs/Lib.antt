@@ -1,3 +1,4 @@
 pub mod Rows
 pub mod Quiet
 pub mod Takes
+pub mod Floors

@@ -8,6 +8,7 @@ use Rattle.stack_rules.specs.declared.Attached.{Attached}
 use Rattle.stack_rules.specs.Net.{Net, Modules, after, after_rows, attached, with_state, is_detached, filter_after}
 use Rattle.stack_rules.specs.Places.{state_in}
 use Rattle.stack_rules.specs.Rewires.{is_in}
+use Rattle.stack_rules.specs.Targets.{has_receive, receive_pair}
 use Rattle.stack_rules.specs.Pauses.{binding_ids, state_row, state_rows}
 use Rattle.rule_basics.proofs.Finds.{find-map}
 use Rattle.state_laws.specs.Shape.{FiltersAre, StatesAre, IsDistinct, AllIn}
@@ -28,6 +29,7 @@ pub record IsPut (net next : Net) (i : ℕ) (s : ModuleState) : Type 0 where
   pub filter : next.next.filter ≡ net.next.filter
   pub list : next.next.list ≡ net.next.list
   pub things : next.things ≡ net.things
+  pub receives : (f : ℕ) → has_receive next.modules f ≡ has_receive net.modules f
   pub within : (order : List ℕ) → AllIn order net.modules.filters → AllIn order next.modules.filters
   pub states : (many : ℕ) (states : ℕ → ModuleState) → NoneDetached states → StatesAre many net.modules states → StatesAre many next.modules (put states i s)
 
@@ -95,6 +97,7 @@ bindings_put net s = record {
   filter = refl;
   list = refl;
   things = refl;
+  receives = λ f. refl;
   within = λ order h. h;
   states = λ many states d h. record {
     bindings = ap (λ n. replicate n s) (ap length h.bindings ∙ length-replicate many (states 0));
@@ -118,6 +121,7 @@ put_miniport net s = record {
   filter = refl;
   list = refl;
   things = refl;
+  receives = λ f. refl;
   within = λ order h. h;
   states = λ many states d h. record {
     bindings = h.bindings ∙ ap (replicate many) (put-apart states (length net.modules.order + 1) s 0 (λ e. absurd (omega arith)));
@@ -212,6 +216,16 @@ pub AllIn-with_state : (order : List ℕ) (f : ℕ) (s : ModuleState) (entries :
 AllIn-with_state order f s [] h = tt
 AllIn-with_state order f s (a ∷ entries) h = (ap (λ n. is_in n order) (same_number f s a) ∙ h.0, AllIn-with_state order f s entries h.1)
 
+receives_same : (g f : ℕ) (s : ModuleState) (entries : List Attached) → receive_pair (attached g (map (with_state f s) entries)) ≡ receive_pair (attached g entries)
+receives_same g f s entries = ap receive_pair (attached-with_state g f s entries) ∙ at (attached g entries)
+  where
+    stays : (a : Attached) → receive_pair (Some (with_state f s a)) ≡ receive_pair (Some a)
+    stays a = elim (a.filter == f) as (λ b. receive_pair (Some (cond b (record a { state = s }) a)) ≡ receive_pair (Some a)) [ true ↦ refl | false ↦ refl ]
+
+    at : (o : Option Attached) → receive_pair (option_map (with_state f s) o) ≡ receive_pair o
+    at None = refl
+    at (Some a) = stays a
+
 -- the filter at place j from the top is position j + 1
 pub put_filter : (net : Net) (s : ModuleState) (j : ℕ) → j < length net.modules.order → IsDistinct net.modules.order → is_detached s ≡ false → ((f n : ℕ) → filter_after (Filter f) s n ≡ n) → IsPut net (after net (state_row s (Filter (get_or net.modules.order j 0)))) (j + 1) s
 put_filter net s j l t d c =
@@ -225,6 +239,7 @@ put_filter net s j l t d c =
       filter = refl;
       list = refl;
       things = refl;
+      receives = λ g. receives_same g f s net.modules.filters;
       within = λ order h. AllIn-with_state order f s net.modules.filters h;
       states = λ many states n h. record {
         bindings = h.bindings ∙ ap (replicate many) (put-apart states (j + 1) s 0 (λ e. absurd (omega arith)));

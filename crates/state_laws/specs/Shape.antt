@@ -52,30 +52,30 @@ pub record IsHalted (many : ℕ) (ms : Modules) : Type 0 where
   pub miniport : ms.miniport ≡ state.Halted
 
 -- the positions above one are Paused, it is Pausing, those below it run
-pub record IsPausing (many : ℕ) (ms : Modules) : Type 0 where
-  pub at : ℕ
-  pub within : at ≤ length ms.order + 1
+pub record IsPausing (many front : ℕ) (ms : Modules) : Type 0 where
   pub some : 0 < many
-  pub states : StatesAre many ms (state_at at (at + 1))
+  pub within : front ≤ length ms.order + 1
+  pub states : StatesAre many ms (state_at front (front + 1))
 
 -- the positions from one on run, those above it are Paused
-pub record IsRestarting (many : ℕ) (ms : Modules) : Type 0 where
-  pub from : ℕ
-  pub some : 0 < from
-  pub within : from ≤ length ms.order + 1
-  pub states : StatesAre many ms (state_at from from)
+pub record IsRestarting (many front : ℕ) (ms : Modules) : Type 0 where
+  pub some : 0 < front
+  pub within : front ≤ length ms.order + 1
+  pub states : StatesAre many ms (state_at front front)
 
 pub record IsRunning (many : ℕ) (ms : Modules) : Type 0 where
   pub some : 0 < many
   pub states : StatesAre many ms (state_at 0 0)
 
--- the states fit the phase
-abbrev pub Fits : ℕ → ℕ → Modules → Phase → Type 0
-Fits many next ms phase.Halted = IsHalted many ms
-Fits many next ms phase.Paused = IsWired next ms × StatesAre many ms (λ p. state.Paused)
-Fits many next ms phase.Restarting = IsWired next ms × IsRestarting many ms
-Fits many next ms phase.Running = IsWired next ms × IsRunning many ms
-Fits many next ms phase.Pausing = IsWired next ms × IsPausing many ms
+-- the states fit the phase, and as many positions from the top are Paused; before the stack is initialised
+-- the number is that of all positions
+abbrev pub Fits : ℕ → ℕ → Modules → ℕ → Phase → Type 0
+Fits many next ms front phase.Halted = IsHalted many ms × (front ≡ length ms.order + 2)
+Fits many next ms front phase.Paused = IsWired next ms × (StatesAre many ms (λ p. state.Paused) × (front ≡ length ms.order + 2))
+Fits many next ms front phase.Restarting = IsWired next ms × IsRestarting many front ms
+Fits many next ms front phase.Running = IsWired next ms × (IsRunning many ms × (front ≡ 0))
+Fits many next ms front phase.Pausing = IsWired next ms × IsPausing many front ms
 
-abbrev pub IsShaped : Net → Type 0
-IsShaped net = Fits (length net.head.bindings) net.next.filter net.modules net.phase
+pub record IsShaped (net : Net) : Type 0 where
+  pub front : ℕ
+  pub fits : Fits (length net.head.bindings) net.next.filter net.modules front net.phase
