@@ -110,7 +110,7 @@ tests_bindings : (test : ModuleState → Bool) (net : Net) (many : ℕ) (states 
 tests_bindings test net many states some h =
     all_are-bindings test net ∙ ap (list_all test) h.bindings ∙ all_replicate test (states 0) many some
 
-length-floors : (ms : Modules) → length (floors ms) ≡ length ms.order + 2
+pub length-floors : (ms : Modules) → length (floors ms) ≡ length ms.order + 2
 length-floors ms = omega (arith, length-low ms.order)
 
 -- the first position that isn't Paused
@@ -179,12 +179,12 @@ running_floors_are net many q some within h =
     past c n q k t w e r s p o = grind (arith, nat_tests)
 
 -- which modules are at a position below the bindings
-low_filter : (fs : List ℕ) (j : ℕ) → j < length fs → get_or (low fs) j [] ≡ one (Filter (get_or fs j 0))
+pub low_filter : (fs : List ℕ) (j : ℕ) → j < length fs → get_or (low fs) j [] ≡ one (Filter (get_or fs j 0))
 low_filter [] j h = absurd (omega arith)
 low_filter (f ∷ fs) zero h = refl
 low_filter (f ∷ fs) (suc j) h = low_filter fs j (omega arith)
 
-low_miniport : (fs : List ℕ) → get_or (low fs) (length fs) [] ≡ one Miniport
+pub low_miniport : (fs : List ℕ) → get_or (low fs) (length fs) [] ≡ one Miniport
 low_miniport [] = refl
 low_miniport (f ∷ fs) = low_miniport fs
 
@@ -193,7 +193,7 @@ pub record IsPlain (s : ModuleState) : Type 0 where
   pub stays : is_detached s ≡ false
   pub old : (f n : ℕ) → filter_after (Filter f) s n ≡ n
 
-put_low : (net : Net) (s : ModuleState) (j : ℕ) → j ≤ length net.modules.order → IsDistinct net.modules.order → IsPlain s → IsPut net (after_rows net (state_rows (s ∷ []) (get_or (low net.modules.order) j []))) (j + 1) s
+pub put_low : (net : Net) (s : ModuleState) (j : ℕ) → j ≤ length net.modules.order → IsDistinct net.modules.order → IsPlain s → IsPut net (after_rows net (state_rows (s ∷ []) (get_or (low net.modules.order) j []))) (j + 1) s
 put_low net s j l d p =
     let cases : (b : Bool) → nat_lt j (length net.modules.order) ≡ b → IsPut net (after_rows net (state_rows (s ∷ []) (get_or (low net.modules.order) j []))) (j + 1) s = elim [
       | true ↦ λ t.
