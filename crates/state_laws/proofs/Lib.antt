@@ -4,3 +4,6 @@ pub mod Takes
 pub mod Floors
 pub mod Changes
 pub mod Phases
+pub mod Halts
+pub mod Rewires
+pub mod Events

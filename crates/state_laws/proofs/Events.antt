@@ -1,0 +1,1 @@
+-- Each event keeps the shape.
