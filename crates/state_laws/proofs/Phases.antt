@@ -134,7 +134,7 @@ plain_running : IsPlain state.Running
 plain_running = record { stays = refl; old = λ f n. refl }
 
 -- a restart's step, of a stack whose phase says so already: position j runs
-abbrev restart_of : Net → ℕ → Bool → List Row
+abbrev pub restart_of : Net → ℕ → Bool → List Row
 restart_of net i top = state_rows (state.Restarting ∷ state.Running ∷ []) (get_or (reverse (floors net.modules)) i []) ++ (if top then row.Phase (of.Stack phase.Running) ∷ [] else [])
 
 restart_shape : (net next : Net) (j : ℕ) (top : Bool) → net.phase ≡ phase.Restarting → IsWired net.next.filter net.modules → StatesAre (length net.head.bindings) net.modules (state_at (j + 1) (j + 1)) → IsTold net next (λ states. put states j state.Running) →
@@ -219,8 +219,8 @@ restart_none net now s i c e =
     subst (λ rows. IsChanged net (after_rows now rows) s) (sym rows) c
 
 -- a restart's step of a stack that restarts
-restart_by : (net now : Net) (s : IsShaped net) (q : ℕ) → now.head ≡ net.head → now.next.list ≡ net.next.list → now.things ≡ net.things → now.modules ≡ net.modules → now.next.filter ≡ net.next.filter → now.phase ≡ phase.Restarting → s.front ≡ q →
-    IsWired net.next.filter net.modules → StatesAre (length net.head.bindings) net.modules (state_at q q) → 0 < q → q ≤ length net.modules.order + 2 → IsChanged net now s → IsChanged net (after_rows now (restart_of net (running_floors net) (is_top net (running_floors net)))) s
+pub restart_by : (net now : Net) (s : IsShaped net) (q : ℕ) → now.head ≡ net.head → now.next.list ≡ net.next.list → now.things ≡ net.things → now.modules ≡ net.modules → now.next.filter ≡ net.next.filter → now.phase ≡ phase.Restarting → s.front ≡ q →
+    IsWired net.next.filter net.modules → StatesAre (length net.head.bindings) net.modules (state_at q q) → 0 < q → q ≤ length net.modules.order + 2 → (q ≡ 1 → IsChanged net now s) → IsChanged net (after_rows now (restart_of net (running_floors net) (is_top net (running_floors net)))) s
 restart_by net now s q he li th mo fi ph is w h some within c =
     let floors_run = running_floors_are net (length net.head.bindings) q some within h in
     let before : (q - 1) + 1 ≡ q = omega arith in
@@ -232,7 +232,7 @@ restart_by net now s q he li th mo fi ph is w h some within c =
         | true ↦ λ t u.
             let m : length net.head.bindings ≡ 0 = grind (arith, nat_tests) in
             let o : q ≡ 1 = grind (arith, nat_tests) in
-            restart_none net now s (running_floors net) c (floors_run.2 m o)
+            restart_none net now s (running_floors net) (c o) (floors_run.2 m o)
         | false ↦ λ t u.
             let o : q ≡ 1 → ⊥ = λ e. grind (arith, nat_tests) in
             step (floors_run.1 o) (λ e. absurd (o (omega (arith, before))))
