@@ -1,1 +1,4 @@
 pub mod Places
+pub mod Lists
+pub mod Hands
+pub mod Routes
