@@ -2,3 +2,10 @@ pub mod Places
 pub mod Lists
 pub mod Hands
 pub mod Routes
+pub mod Works
+pub mod Sends
+pub mod Homes
+pub mod Keepers
+pub mod Receives
+pub mod Lent
+pub mod Drains
