@@ -212,7 +212,7 @@ pub turn_is : (net : Net) (turn : Turn) (n : Next net turn) → after_turn net t
 turn_is net turn n = ap (λ rows. after_rows (told net turn.event turn.reply) rows) n.rows ∙ ap (λ r. after_rows (told net turn.event r) (outcome net turn.event n.choice).rows) n.reply
 
 pub shaped_start : (head : StackHead) → IsShaped (start head)
-shaped_start head = record { front = 2; fits = (record { bindings = refl; filters = refl; miniport = refl }, refl) }
+shaped_start head = record { front = 2; fits = (record { distinct = tt; bindings = refl; filters = refl; miniport = refl }, refl) }
 
 pub shaped_turns : (net : Net) (turns : List Turn) → IsShaped net → SoundFrom net turns → IsShaped (after_turns net turns)
 shaped_turns net [] s h = s
