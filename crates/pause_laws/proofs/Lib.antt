@@ -9,3 +9,6 @@ pub mod Keepers
 pub mod Receives
 pub mod Lent
 pub mod Drains
+pub mod Pumps
+pub mod Fronts
+pub mod Turns
