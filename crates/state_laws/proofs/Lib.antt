@@ -8,3 +8,4 @@ pub mod Halts
 pub mod Rewires
 pub mod Events
 pub mod States
+pub mod Tops

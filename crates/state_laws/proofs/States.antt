@@ -14,7 +14,7 @@ use Rattle.stack_rules.specs.Rewires.{is_in}
 use Rattle.state_laws.specs.Shape.{state_at, FiltersAre, StatesAre, AllIn}
 
 -- a filter of the order has the state of its position
-filter_at : (states : ℕ → ModuleState) (entries : List Attached) (p f : ℕ) (fs : List ℕ) → FiltersAre states entries p fs → is_in f fs ≡ true → state_in (attached f entries) ≡ states (p + above f fs)
+pub filter_at : (states : ℕ → ModuleState) (entries : List Attached) (p f : ℕ) (fs : List ℕ) → FiltersAre states entries p fs → is_in f fs ≡ true → state_in (attached f entries) ≡ states (p + above f fs)
 filter_at states entries p f [] h i = cc
 filter_at states entries p f (g ∷ fs) h i =
     let cases : (b : Bool) → (g == f) ≡ b → (b || is_in f fs) ≡ true → state_in (attached f entries) ≡ states (p + cond b 0 (above f fs + 1)) = elim [
