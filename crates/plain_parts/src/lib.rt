@@ -1,0 +1,9 @@
+//! The small parts of the plain program that computes the rules of the stack: equal values of what a
+//! journal is made of, tests, and lists of rows.
+#![tactic(auto)]
+
+pub mod copies;
+pub mod rows;
+pub mod same;
+
+ghost use Rattle.std.specs.Prelude.{◌≡◌};

@@ -1,0 +1,11 @@
+//! Where modules and lists are, where things go next, and what a turn answers, computed plainly.
+#![tactic(auto)]
+
+pub mod lists;
+pub mod outcome;
+pub mod places;
+pub mod targets;
+
+ghost use Rattle.std.specs.Prelude.{◌≡◌};
+
+pub use crate::outcome::PlainOutcome;

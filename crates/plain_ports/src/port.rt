@@ -1,0 +1,153 @@
+//! What the miniport answers requests by, and the packet filters by which lists are delivered.
+ghost use Rattle.std.specs.Prelude.{◌≡◌, ◌+◌, OnOk, IfOk, replicate, Some};
+ghost use Rattle.std.specs.Int.{from_le_bytes, w32};
+ghost use Rattle.stack_rules.specs.Net.{port_done, set_when, sets_filter, is_given_to_miniport, no_parent};
+
+use ndis_base::{ModuleId, OidKind, OidNo, OidStatus, OutOfMemory};
+use plain_parts::rows::sum_of;
+use plain_programs::bytes::byte_at;
+use stack_rules::{Request, RequestAt};
+use std::alloc::Global;
+use std::marker::Model;
+
+/// OID_GEN_CURRENT_PACKET_FILTER.
+pub const PACKET_FILTER: u32 = 65806;
+
+/// The frames that the miniport sent and that it indicated, the packet filters that it answers with,
+/// and those by which lists are delivered.
+#[derive(Drop)]
+pub struct PlainPort {
+    sent: u64,
+    received: u64,
+    answers_by: Vec<u32>,
+    delivers_by: Vec<u32>,
+}
+
+impl Model for PlainPort {
+    ghost use Rattle.stack_rules.specs.Net.{Port};
+
+    ghost Value = { Port };
+
+    ghost view = { λ p. record { sent = p.sent; received = p.received; answers_by = p.answers_by.items; delivers_by = p.delivers_by.items } };
+}
+
+fn all_frames(alloc: Global, many: usize) -> Result<Vec<u32>, OutOfMemory>
+    ensures { IfOk result (λ filters. filters.items ≡ replicate many 32) }
+{
+    let mut filters = Vec::new(alloc);
+    for i in 0..many {
+        filters.push(32)?;
+    }
+    Ok(filters)
+}
+
+/// Nothing is sent or indicated, and each of so many bindings takes all frames.
+pub fn first_port(alloc: Global, bindings: usize) -> Result<PlainPort, OutOfMemory>
+    ensures { IfOk result (λ p. p ≡ record { sent = 0; received = 0; answers_by = replicate bindings 32; delivers_by = replicate bindings 32 }) }
+{
+    Ok(PlainPort {
+        sent: 0,
+        received: 0,
+        answers_by: all_frames(alloc, bindings)?,
+        delivers_by: all_frames(alloc, bindings)?,
+    })
+}
+
+/// The number of the first four bytes, the least significant first.
+pub fn filter_in(value: &[u8]) -> u32
+    ensures { result ≡ from_le_bytes w32 value.now }
+{
+    u32::from_le_bytes([
+        byte_at(value, 0),
+        byte_at(value, 1),
+        byte_at(value, 2),
+        byte_at(value, 3),
+    ])
+}
+
+fn sets_filter(r: &Request, status: OidStatus) -> bool
+    ensures { result ≡ sets_filter r.now status }
+{
+    matches!(status, OidStatus::Success)
+        && matches!(r.kind, OidKind::Set)
+        && r.code == PACKET_FILTER
+}
+
+fn is_given_to_miniport(at: RequestAt) -> bool
+    ensures { result ≡ is_given_to_miniport at }
+{
+    match at {
+        RequestAt::Given(m) => matches!(m, ModuleId::Miniport),
+        _ => false,
+    }
+}
+
+fn no_parent(parent: Option<OidNo>) -> bool
+    ensures { result ≡ no_parent parent }
+{
+    match parent {
+        None => true,
+        Some(_) => false,
+    }
+}
+
+fn set_when(b: bool, filters: &mut Vec<u32>, binding: u32, value: &[u8])
+    ensures { filters.new.items ≡ set_when b filters.old.items binding value.now }
+{
+    if b && (binding as usize) < filters.len() {
+        filters[binding as usize] = filter_in(value);
+    }
+}
+
+impl PlainPort {
+    pub fn sent(&self) -> u64
+        ensures { result ≡ self.now.sent }
+    {
+        self.sent
+    }
+
+    pub fn received(&self) -> u64
+        ensures { result ≡ self.now.received }
+    {
+        self.received
+    }
+
+    pub fn answers_by(&self) -> &[u32]
+        ensures { result.now ≡ self.now.answers_by }
+    {
+        self.answers_by.as_slice()
+    }
+
+    pub fn delivers_by(&self) -> &[u32]
+        ensures { result.now ≡ self.now.delivers_by }
+    {
+        self.delivers_by.as_slice()
+    }
+
+    /// So many more frames were sent. A count past the greatest number counts as want of memory.
+    pub fn count_sent(&mut self, many: usize) -> Result<(), OutOfMemory>
+        ensures { OnOk result (self.new ≡ record self.old { sent = self.old.sent + many }) }
+    {
+        self.sent = sum_of(self.sent, many as u64)?;
+        Ok(())
+    }
+
+    /// So many more frames were indicated. A count past the greatest number counts as want of memory.
+    pub fn count_received(&mut self, many: usize) -> Result<(), OutOfMemory>
+        ensures { OnOk result (self.new ≡ record self.old { received = self.old.received + many }) }
+    {
+        self.received = sum_of(self.received, many as u64)?;
+        Ok(())
+    }
+
+    /// A request is done.
+    pub fn take_done(&mut self, r: &Request, status: OidStatus)
+        ensures { self.new ≡ port_done (Some r.now) status self.old }
+    {
+        let sets = sets_filter(r, status);
+        let answers = sets && is_given_to_miniport(r.at);
+        let delivers = sets && no_parent(r.parent);
+        set_when(answers, &mut self.answers_by, r.binding, r.value.bytes());
+        set_when(delivers, &mut self.delivers_by, r.binding, r.value.bytes());
+    }
+}
