@@ -1,5 +1,5 @@
-//! The small parts of the plain program that computes the rules of the stack: equal values of what a
-//! journal is made of, tests, and lists of rows.
+//! The small parts of the plain program that computes the rules of the stack: copies of what a journal is
+//! made of, tests, and lists of rows.
 #![tactic(auto)]
 
 pub mod copies;
