@@ -1,5 +1,4 @@
-//! The state after a journal, kept plainly: each row and each event makes the change that its definition
-//! says, on plain vectors.
+//! The state of a stack after the turns of its journal, computed row by row on plain vectors.
 #![tactic(auto)]
 
 pub mod net;

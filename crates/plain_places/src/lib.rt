@@ -1,4 +1,5 @@
-//! Where modules and lists are, where things go next, and what a turn answers, computed plainly.
+//! Where modules and lists are, where lists and statuses go next, and what a turn answers, computed
+//! plainly.
 #![tactic(auto)]
 
 pub mod lists;

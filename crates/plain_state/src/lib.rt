@@ -1,5 +1,4 @@
-//! The parts of the state after a journal, as plain vectors: each function computes the definition of
-//! its name.
+//! The modules, the requests and the counters of a stack, as plain vectors.
 #![tactic(auto)]
 
 pub mod counters;
