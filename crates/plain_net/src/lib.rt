@@ -3,6 +3,4 @@
 
 pub mod net;
 
-ghost use Rattle.std.specs.Prelude.{◌≡◌};
-
 pub use crate::net::PlainNet;

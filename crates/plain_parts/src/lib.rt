@@ -5,5 +5,3 @@
 pub mod copies;
 pub mod rows;
 pub mod same;
-
-ghost use Rattle.std.specs.Prelude.{◌≡◌};

@@ -1,5 +1,5 @@
 //! Tests on the small types.
-ghost use Rattle.std.specs.Prelude.{◌≡◌, ◌==◌};
+ghost use Rattle.std.specs.Prelude.{◌≡◌};
 ghost use Rattle.std.specs.Str.{bytes_eq};
 ghost use Rattle.stack_rules.specs.Tests.{same_module, same_frames, same_number, is_hold, is_loop, is_virtual, is_retain, is_echo, is_mux, is_down, phase_is_running};
 

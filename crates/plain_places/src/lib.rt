@@ -7,6 +7,4 @@ pub mod outcome;
 pub mod places;
 pub mod targets;
 
-ghost use Rattle.std.specs.Prelude.{◌≡◌};
-
 pub use crate::outcome::PlainOutcome;

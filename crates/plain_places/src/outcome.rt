@@ -1,5 +1,5 @@
 //! What a turn answers, and the rows that it writes.
-ghost use Rattle.std.specs.Prelude.{◌≡◌, [], IfOk};
+ghost use Rattle.std.specs.Prelude.{◌≡◌, IfOk};
 ghost use Rattle.stack_rules.specs.Outcome.{answered, refused, root};
 
 use journal_types::{Frames, Refusal, Reply, Row};

@@ -4,6 +4,4 @@
 pub mod messages;
 pub mod port;
 
-ghost use Rattle.std.specs.Prelude.{◌≡◌};
-
 pub use crate::port::PlainPort;

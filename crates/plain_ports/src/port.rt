@@ -13,6 +13,9 @@ use std::marker::Model;
 /// The code of the request that sets a binding's packet filter: OID_GEN_CURRENT_PACKET_FILTER.
 pub const PACKET_FILTER: u32 = 0x0001_010e;
 
+/// The packet filter that takes all frames: NDIS_PACKET_TYPE_PROMISCUOUS.
+const ALL_FRAMES: u32 = 0x20;
+
 /// How many frames the miniport sent and indicated, and for each binding the packet filter that the
 /// miniport answers with and the one by which lists are delivered.
 #[derive(Drop)]
@@ -36,7 +39,7 @@ fn all_frames(alloc: Global, many: usize) -> Result<Vec<u32>, OutOfMemory>
 {
     let mut filters = Vec::new(alloc);
     for i in 0..many {
-        filters.push(32)?;
+        filters.push(ALL_FRAMES)?;
     }
     Ok(filters)
 }

@@ -4,5 +4,3 @@
 
 pub mod bytes;
 pub mod rules;
-
-ghost use Rattle.std.specs.Prelude.{◌≡◌};

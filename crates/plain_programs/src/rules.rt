@@ -1,5 +1,5 @@
 //! What a program makes of a frame, and of the frames of a list.
-ghost use Rattle.std.specs.Prelude.{◌≡◌, IfOk, option_map, Some, None};
+ghost use Rattle.std.specs.Prelude.{◌≡◌, IfOk, option_map, Some};
 ghost use Rattle.std.specs.Str.{bytes_eq};
 ghost use Rattle.program_types.specs.Apply.{holds, act, apply_rule, apply, applied, onto};
 ghost use Rattle.program_types.specs.declared.Action.TheVariants as action;

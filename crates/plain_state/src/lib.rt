@@ -6,7 +6,5 @@ pub mod filters;
 pub mod modules;
 pub mod requests;
 
-ghost use Rattle.std.specs.Prelude.{◌≡◌};
-
 pub use crate::counters::PlainCounters;
 pub use crate::modules::PlainModules;

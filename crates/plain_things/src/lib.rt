@@ -3,5 +3,3 @@
 #![tactic(auto)]
 
 pub mod things;
-
-ghost use Rattle.std.specs.Prelude.{◌≡◌};

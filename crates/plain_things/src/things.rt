@@ -1,5 +1,5 @@
 //! What each row does to the lists, statuses and answers of a stack.
-ghost use Rattle.std.specs.Prelude.{◌≡◌, ◌∷◌, ◌++◌, [], not, IfOk, Some, option_copied, filter, map};
+ghost use Rattle.std.specs.Prelude.{◌≡◌, not, IfOk, Some, option_copied, filter};
 ghost use Rattle.stack_rules.specs.Net.{lists, list_of, is_list, without, with_list, changed, at_end, kept_by, passed_to, kept, passed, answers, without_status, is_status, answer_to, things_done, taken_by, had_by};
 
 use journal_types::{PassWay, Target};
