@@ -1,0 +1,6 @@
+//! Messages between stacks that MUX intermediate drivers join, computed plainly.
+#![tactic(auto)]
+
+pub mod crosses;
+
+ghost use Rattle.std.specs.Prelude.{◌≡◌};

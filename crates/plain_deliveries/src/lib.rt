@@ -1,0 +1,7 @@
+//! What becomes of a buffer list at the bindings, and on its way home, computed plainly.
+#![tactic(auto)]
+
+pub mod deliveries;
+pub mod dones;
+
+ghost use Rattle.std.specs.Prelude.{◌≡◌};

@@ -1,0 +1,8 @@
+//! OID requests and status indications, computed plainly.
+#![tactic(auto)]
+
+pub mod requests;
+pub mod statuses;
+pub mod table;
+
+ghost use Rattle.std.specs.Prelude.{◌≡◌};

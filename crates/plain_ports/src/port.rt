@@ -1,0 +1,160 @@
+//! What the miniport answers requests by, and the packet filters by which lists are delivered to bindings.
+ghost use Rattle.std.specs.Prelude.{◌≡◌, ◌+◌, OnOk, IfOk, replicate, Some};
+ghost use Rattle.std.specs.Int.{from_le_bytes, w32};
+ghost use Rattle.stack_rules.specs.Net.{port_done, set_when, sets_filter, is_given_to_miniport, no_parent};
+
+use ndis_base::{ModuleId, OidKind, OidNo, OidStatus, OutOfMemory};
+use plain_parts::rows::sum_of;
+use plain_programs::bytes::byte_at;
+use stack_rules::{Request, RequestAt};
+use std::alloc::Global;
+use std::marker::Model;
+
+/// The code of the request that sets a binding's packet filter: OID_GEN_CURRENT_PACKET_FILTER.
+pub const PACKET_FILTER: u32 = 0x0001_010e;
+
+/// The packet filter that takes all frames: NDIS_PACKET_TYPE_PROMISCUOUS.
+const ALL_FRAMES: u32 = 0x20;
+
+/// How many frames the miniport sent and indicated, and for each binding the packet filter that the
+/// miniport answers with and the one by which lists are delivered.
+#[derive(Drop)]
+pub struct PlainPort {
+    sent: u64,
+    received: u64,
+    answers_by: Vec<u32>,
+    delivers_by: Vec<u32>,
+}
+
+impl Model for PlainPort {
+    ghost use Rattle.stack_rules.specs.Net.{Port};
+
+    ghost Value = { Port };
+
+    ghost view = { λ p. record { sent = p.sent; received = p.received; answers_by = p.answers_by.items; delivers_by = p.delivers_by.items } };
+}
+
+fn all_frames(alloc: Global, many: usize) -> Result<Vec<u32>, OutOfMemory>
+    ensures { IfOk result (λ filters. filters.items ≡ replicate many 32) }
+{
+    let mut filters = Vec::new(alloc);
+    for i in 0..many {
+        filters.push(ALL_FRAMES)?;
+    }
+    Ok(filters)
+}
+
+/// Before any frame is sent or indicated: each of so many bindings takes all frames.
+pub fn first_port(alloc: Global, bindings: usize) -> Result<PlainPort, OutOfMemory>
+    ensures { IfOk result (λ p. p ≡ record { sent = 0; received = 0; answers_by = replicate bindings 32; delivers_by = replicate bindings 32 }) }
+{
+    Ok(PlainPort {
+        sent: 0,
+        received: 0,
+        answers_by: all_frames(alloc, bindings)?,
+        delivers_by: all_frames(alloc, bindings)?,
+    })
+}
+
+/// The packet filter that the first four bytes make, the least significant first.
+pub fn filter_in(value: &[u8]) -> u32
+    ensures { result ≡ from_le_bytes w32 value.now }
+{
+    u32::from_le_bytes([
+        byte_at(value, 0),
+        byte_at(value, 1),
+        byte_at(value, 2),
+        byte_at(value, 3),
+    ])
+}
+
+fn sets_filter(r: &Request, status: OidStatus) -> bool
+    ensures { result ≡ sets_filter r.now status }
+{
+    matches!(status, OidStatus::Success)
+        && matches!(r.kind, OidKind::Set)
+        && r.code == PACKET_FILTER
+}
+
+fn is_given_to_miniport(at: RequestAt) -> bool
+    ensures { result ≡ is_given_to_miniport at }
+{
+    match at {
+        RequestAt::Given(m) => matches!(m, ModuleId::Miniport),
+        _ => false,
+    }
+}
+
+fn no_parent(parent: Option<OidNo>) -> bool
+    ensures { result ≡ no_parent parent }
+{
+    match parent {
+        None => true,
+        Some(_) => false,
+    }
+}
+
+fn set_when(b: bool, filters: &mut Vec<u32>, binding: u32, value: &[u8])
+    ensures { filters.new.items ≡ set_when b filters.old.items binding value.now }
+{
+    if b && (binding as usize) < filters.len() {
+        filters[binding as usize] = filter_in(value);
+    }
+}
+
+impl PlainPort {
+    /// How many frames the miniport sent.
+    pub fn sent(&self) -> u64
+        ensures { result ≡ self.now.sent }
+    {
+        self.sent
+    }
+
+    /// How many frames the miniport indicated.
+    pub fn received(&self) -> u64
+        ensures { result ≡ self.now.received }
+    {
+        self.received
+    }
+
+    /// The packet filter of each binding that the miniport answers with.
+    pub fn answers_by(&self) -> &[u32]
+        ensures { result.now ≡ self.now.answers_by }
+    {
+        self.answers_by.as_slice()
+    }
+
+    /// The packet filter of each binding by which lists are delivered to it.
+    pub fn delivers_by(&self) -> &[u32]
+        ensures { result.now ≡ self.now.delivers_by }
+    {
+        self.delivers_by.as_slice()
+    }
+
+    /// Counts so many more frames as sent. A count past the greatest number counts as want of memory.
+    pub fn count_sent(&mut self, many: usize) -> Result<(), OutOfMemory>
+        ensures { OnOk result (self.new ≡ record self.old { sent = self.old.sent + many }) }
+    {
+        self.sent = sum_of(self.sent, many as u64)?;
+        Ok(())
+    }
+
+    /// Counts so many more frames as indicated. A count past the greatest number counts as want of memory.
+    pub fn count_received(&mut self, many: usize) -> Result<(), OutOfMemory>
+        ensures { OnOk result (self.new ≡ record self.old { received = self.old.received + many }) }
+    {
+        self.received = sum_of(self.received, many as u64)?;
+        Ok(())
+    }
+
+    /// Takes the packet filter of a request that was answered, where it sets one.
+    pub fn take_done(&mut self, r: &Request, status: OidStatus)
+        ensures { self.new ≡ port_done (Some r.now) status self.old }
+    {
+        let sets = sets_filter(r, status);
+        let answers = sets && is_given_to_miniport(r.at);
+        let delivers = sets && no_parent(r.parent);
+        set_when(answers, &mut self.answers_by, r.binding, r.value.bytes());
+        set_when(delivers, &mut self.delivers_by, r.binding, r.value.bytes());
+    }
+}

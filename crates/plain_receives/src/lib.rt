@@ -1,0 +1,6 @@
+//! What becomes of a buffer list on its way up, computed plainly.
+#![tactic(auto)]
+
+pub mod receives;
+
+ghost use Rattle.std.specs.Prelude.{◌≡◌};

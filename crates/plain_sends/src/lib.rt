@@ -1,0 +1,7 @@
+//! What becomes of a buffer list on its way down, computed plainly.
+#![tactic(auto)]
+
+pub mod handled;
+pub mod sends;
+
+ghost use Rattle.std.specs.Prelude.{◌≡◌};

@@ -1,0 +1,6 @@
+use Rattle.std.proofs.Common.{◌≡◌, map}
+use Rattle.stack_rules.specs.Net.{with_list, taken_by}
+use Rattle.plain_things.proofs.things.things_taken_by.Given as goal
+
+abbrev pub invariant-loop-t : goal.invariant-loop-t
+invariant-loop-t l = l.after.items ≡ map (with_list l.n (taken_by l.message)) l.yielded

@@ -1,0 +1,6 @@
+use Rattle.std.proofs.Common.{◌≡◌, not, filter}
+use Rattle.stack_rules.specs.Net.{is_list}
+use Rattle.plain_things.proofs.things.without.Given as goal
+
+abbrev pub invariant-loop-t : goal.invariant-loop-t
+invariant-loop-t l = l.after.items ≡ filter (λ t. not (is_list l.n t)) l.yielded
