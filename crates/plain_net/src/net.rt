@@ -26,7 +26,7 @@ use std::alloc::Global;
 use std::marker::Model;
 use std::mem;
 
-/// The state after the turns of a journal so far.
+/// The state of a stack after the turns of its journal so far.
 #[derive(Drop)]
 pub struct PlainNet {
     alloc: Global,
@@ -67,48 +67,56 @@ impl PlainNet {
         })
     }
 
+    /// The fixed part of the stack.
     pub fn head(&self) -> &StackHead
         ensures { result.now ≡ self.now.head }
     {
         &self.head
     }
 
+    /// The phase of the stack.
     pub fn phase(&self) -> Phase
         ensures { result ≡ self.now.phase }
     {
         self.phase
     }
 
+    /// The modules and the configuration.
     pub fn modules(&self) -> &PlainModules
         ensures { result.now ≡ self.now.modules }
     {
         &self.modules
     }
 
+    /// The lists, statuses and answers that are kept or on their way, in the order of their last row.
     pub fn things(&self) -> &[Thing]
         ensures { result.now ≡ self.now.things }
     {
         self.things.as_slice()
     }
 
+    /// The requests that aren't answered, the oldest first.
     pub fn requests(&self) -> &[Request]
         ensures { result.now ≡ self.now.requests }
     {
         self.requests.as_slice()
     }
 
+    /// What the miniport has counted, and the packet filters.
     pub fn port(&self) -> &PlainPort
         ensures { result.now ≡ self.now.port }
     {
         &self.port
     }
 
+    /// The messages that mux bindings keep, the oldest first.
     pub fn messages(&self) -> &[Message]
         ensures { result.now ≡ self.now.messages }
     {
         self.messages.as_slice()
     }
 
+    /// The numbers that come next.
     pub fn next(&self) -> &PlainCounters
         ensures { result.now ≡ self.now.next }
     {
@@ -434,7 +442,7 @@ impl PlainNet {
         })
     }
 
-    /// Tells what an event and its reply say beside the rows: the setup of a new filter, and the
+    /// Takes what an event and its reply tell beside the rows: the setup of a new filter, and the
     /// message that was taken. After want of memory the state is not to be used further.
     pub fn tell(&mut self, event: &Event, reply: &Reply) -> Result<(), OutOfMemory>
         ensures { OnOk result (self.new ≡ told self.old event.now reply.now) }

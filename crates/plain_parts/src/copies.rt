@@ -1,13 +1,13 @@
-//! Equal values of what a journal is made of.
-ghost use Rattle.std.specs.Prelude.{◌≡◌, ◌+◌, IfOk};
+//! Copies of what a journal is made of.
+ghost use Rattle.std.specs.Prelude.{◌≡◌, IfOk};
 
 use journal_types::{BindingSetups, FilterList, Frames, Setup, StackHead, UpperLinks};
 use ndis_base::{Frame, OutOfMemory};
 use program_types::Program;
-use stack_rules::{Answered, LiveList, Request};
+use stack_rules::{LiveList, Request};
 use std::alloc::Global;
 
-/// Equal frames.
+/// A copy of frames.
 pub fn copy_frames(alloc: Global, frames: &Frames) -> Result<Frames, OutOfMemory>
     ensures { IfOk result (λ copy. copy ≡ frames.now) }
 {
@@ -19,14 +19,14 @@ pub fn copy_frames(alloc: Global, frames: &Frames) -> Result<Frames, OutOfMemory
     Ok(Frames::of(copy))
 }
 
-/// An equal program.
+/// A copy of a frame program.
 pub fn copy_program(alloc: Global, program: &Program) -> Result<Program, OutOfMemory>
     ensures { IfOk result (λ copy. copy ≡ program.now) }
 {
     Ok(Program::of(Vec::from_slice(alloc, program.rules())?))
 }
 
-/// An equal setup.
+/// A copy of a filter's setup.
 pub fn copy_setup(alloc: Global, setup: &Setup) -> Result<Setup, OutOfMemory>
     ensures { IfOk result (λ copy. copy ≡ setup.now) }
 {
@@ -38,14 +38,14 @@ pub fn copy_setup(alloc: Global, setup: &Setup) -> Result<Setup, OutOfMemory>
     })
 }
 
-/// The filters of a configuration by these numbers.
+/// A configuration's filters, from their numbers.
 pub fn copy_filters(alloc: Global, filters: &[u64]) -> Result<FilterList, OutOfMemory>
     ensures { IfOk result (λ copy. copy ≡ filters.now) }
 {
     Ok(FilterList::of(Vec::from_slice(alloc, filters)?))
 }
 
-/// Equal numbers of filters.
+/// A copy of filters' numbers.
 pub fn copy_numbers(alloc: Global, numbers: &[u64]) -> Result<Vec<u64>, OutOfMemory>
     ensures { IfOk result (λ copy. copy.items ≡ numbers.now) }
 {
@@ -64,7 +64,7 @@ fn copy_uppers(alloc: Global, uppers: &UpperLinks) -> Result<UpperLinks, OutOfMe
     Ok(UpperLinks::of(Vec::from_slice(alloc, uppers.items())?))
 }
 
-/// An equal head.
+/// A copy of the fixed part of a stack.
 pub fn copy_head(alloc: Global, head: &StackHead) -> Result<StackHead, OutOfMemory>
     ensures { IfOk result (λ copy. copy ≡ head.now) }
 {
@@ -78,7 +78,7 @@ pub fn copy_head(alloc: Global, head: &StackHead) -> Result<StackHead, OutOfMemo
     })
 }
 
-/// An equal list.
+/// A copy of a live list.
 pub fn copy_list(alloc: Global, l: &LiveList) -> Result<LiveList, OutOfMemory>
     ensures { IfOk result (λ copy. copy ≡ l.now) }
 {
@@ -95,7 +95,7 @@ pub fn copy_list(alloc: Global, l: &LiveList) -> Result<LiveList, OutOfMemory>
     })
 }
 
-/// An equal request. It takes no memory.
+/// A copy of a request. It takes no memory.
 pub fn copy_request(r: &Request) -> Request
     ensures { result ≡ r.now }
 {

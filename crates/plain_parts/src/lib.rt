@@ -1,9 +1,7 @@
-//! The small parts of the plain program that computes the rules of the stack: equal values of what a
-//! journal is made of, tests, and lists of rows.
+//! The small parts of the plain program that computes the rules of the stack: copies of what a journal is
+//! made of, tests, and lists of rows.
 #![tactic(auto)]
 
 pub mod copies;
 pub mod rows;
 pub mod same;
-
-ghost use Rattle.std.specs.Prelude.{◌≡◌};

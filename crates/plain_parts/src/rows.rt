@@ -1,4 +1,4 @@
-//! Lists of rows. They are short, and are put together at either end.
+//! Lists of rows, which are put together at either end, and sums of counts.
 ghost use Rattle.std.specs.Prelude.{◌≡◌, ◌+◌, ◌++◌, ◌∷◌, [], IfOk};
 
 use journal_types::Row;
@@ -12,7 +12,7 @@ pub fn no_rows(alloc: Global) -> Vec<Row>
     Vec::new(alloc)
 }
 
-/// One row.
+/// One row alone.
 pub fn one_row(alloc: Global, row: Row) -> Result<Vec<Row>, OutOfMemory>
     ensures { IfOk result (λ rows. rows.items ≡ row ∷ []) }
 {
@@ -40,7 +40,7 @@ pub fn row_before(row: Row, others: Vec<Row>) -> Result<Vec<Row>, OutOfMemory>
     Ok(rows)
 }
 
-/// Rows, and then others.
+/// Rows, and the others after them.
 pub fn rows_and(rows: Vec<Row>, others: Vec<Row>) -> Result<Vec<Row>, OutOfMemory>
     ensures { IfOk result (λ all. all.items ≡ rows.items ++ others.items) }
 {

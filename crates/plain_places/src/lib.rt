@@ -1,11 +1,10 @@
-//! Where modules and lists are, where things go next, and what a turn answers, computed plainly.
+//! Where modules and lists are, where lists and statuses go next, and what a turn answers, computed
+//! plainly.
 #![tactic(auto)]
 
 pub mod lists;
 pub mod outcome;
 pub mod places;
 pub mod targets;
-
-ghost use Rattle.std.specs.Prelude.{◌≡◌};
 
 pub use crate::outcome::PlainOutcome;

@@ -52,7 +52,7 @@ fn kept_in(alloc: Global, m: ModuleId, things: &[Thing]) -> Result<Vec<LiveList>
     Ok(kept)
 }
 
-/// The lists that a module keeps, the oldest first.
+/// The lists that a module keeps, the one that it has kept longest first.
 pub fn kept_lists(alloc: Global, net: &PlainNet, m: ModuleId) -> Result<Vec<LiveList>, OutOfMemory>
     ensures { IfOk result (λ kept. kept.items ≡ kept_lists net.now m) }
 {
@@ -72,21 +72,21 @@ fn has_clone_in(n: u64, things: &[Thing]) -> bool
     false
 }
 
-/// Whether a clone of the list is live.
+/// Whether a clone of the list of this number is live.
 pub fn has_clone(net: &PlainNet, n: u64) -> bool
     ensures { result ≡ has_clone net.now n }
 {
     has_clone_in(n, net.things())
 }
 
-/// Whether a kept list waits.
+/// Whether a kept list waits: it has crossed to another stack, or a clone of it is live.
 pub fn waits(net: &PlainNet, l: &LiveList) -> bool
     ensures { result ≡ waits net.now l.now }
 {
     is_crossed(l.crossed) || has_clone(net, l.list.0)
 }
 
-/// The ready lists that a module keeps, the oldest first.
+/// The lists that a module keeps and that don't wait, the one that it has kept longest first.
 pub fn ready_lists(alloc: Global, net: &PlainNet, m: ModuleId) -> Result<Vec<LiveList>, OutOfMemory>
     ensures { IfOk result (λ ready. ready.items ≡ ready_lists net.now m) }
 {
@@ -111,7 +111,7 @@ fn first_away(things: &[Thing]) -> Option<&Thing>
     None
 }
 
-/// What a pump works.
+/// What a pump works: the first that is on its way.
 pub fn agenda_first(net: &PlainNet) -> Option<&Thing>
     ensures { option_copied result ≡ agenda_first net.now }
 {
@@ -150,7 +150,7 @@ fn binding_setup(head: &StackHead, b: u32) -> (ProtocolKind, usize)
     }
 }
 
-/// The lists in a module's pool.
+/// How many lists a module's pool has.
 pub fn pool_of(net: &PlainNet, m: ModuleId) -> usize
     ensures { result ≡ pool_of net.now m }
 {
@@ -161,7 +161,7 @@ pub fn pool_of(net: &PlainNet, m: ModuleId) -> usize
     }
 }
 
-/// Whether a module's pool is full.
+/// Whether a module's pool is full: the module owns as many live lists as it has.
 pub fn is_full(net: &PlainNet, m: ModuleId) -> bool
     ensures { result ≡ is_full net.now m }
 {
@@ -178,7 +178,7 @@ fn binding_state(states: &[ModuleState], b: u32) -> ModuleState
     }
 }
 
-/// The state of a module.
+/// The state of a module; a filter that isn't attached is Detached.
 pub fn state_of(net: &PlainNet, m: ModuleId) -> ModuleState
     ensures { result ≡ state_of net.now m }
 {

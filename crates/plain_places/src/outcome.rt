@@ -1,5 +1,5 @@
-//! What a turn answers and writes.
-ghost use Rattle.std.specs.Prelude.{◌≡◌, [], IfOk};
+//! What a turn answers, and the rows that it writes.
+ghost use Rattle.std.specs.Prelude.{◌≡◌, IfOk};
 ghost use Rattle.stack_rules.specs.Outcome.{answered, refused, root};
 
 use journal_types::{Frames, Refusal, Reply, Row};
@@ -31,18 +31,21 @@ impl Model for PlainOutcome {
 }
 
 impl PlainOutcome {
+    /// This reply with these rows.
     pub fn of(reply: Reply, rows: Vec<Row>) -> PlainOutcome
         ensures { result ≡ record { reply = reply; rows = rows.items } }
     {
         PlainOutcome { reply, rows }
     }
 
+    /// What the turn answers.
     pub fn reply(&self) -> &Reply
         ensures { result.now ≡ self.now.reply }
     {
         &self.reply
     }
 
+    /// The rows that the turn writes.
     pub fn rows(&self) -> &[Row]
         ensures { result.now ≡ self.now.rows }
     {
@@ -73,7 +76,7 @@ pub fn refused(alloc: Global, cause: Refusal) -> PlainOutcome
     answered(alloc, Reply::Refused(cause))
 }
 
-/// A list of its owner, which is no clone and no copy.
+/// The row that issues a list of its owner's own, which is no clone and no copy.
 pub fn root(
     alloc: Global,
     net: &PlainNet,

@@ -1,5 +1,5 @@
-//! Positions of modules and lists: 0 is the bindings, then the filters from top to bottom, then the
-//! miniport.
+//! Positions of modules and lists: position 0 is the bindings, then come the filters from top to bottom,
+//! and then the miniport.
 ghost use Rattle.std.specs.Prelude.{◌≡◌, ◌≤◌, Some, length};
 ghost use Rattle.stack_rules.specs.declared.Stand.TheVariants as stand;
 ghost use Rattle.stack_rules.specs.Places.{above, position, position_of_target, position_in, is_at_most, counts_at, is_kept_by, is_passed, is_clone_of, is_crossed, is_away};
@@ -9,7 +9,7 @@ use ndis_base::{CrossNo, ModuleId, Origin};
 use plain_parts::same::same_module;
 use stack_rules::{LiveList, Stand, Thing};
 
-/// How many filters of the order stand above a filter.
+/// How many filters of an order stand above a filter; all, where it isn't in the order.
 pub fn above(f: u64, order: &[u64]) -> usize
     ensures value { result ≡ above f order.now }
     ensures within { result ≤ length order.now }
@@ -22,7 +22,7 @@ pub fn above(f: u64, order: &[u64]) -> usize
     order.len()
 }
 
-/// The position of a module.
+/// The position of a module in an order of filters.
 pub fn position(order: &[u64], m: ModuleId) -> usize
     ensures { result ≡ position order.now m }
 {
@@ -72,13 +72,14 @@ fn is_at_most(i: usize, p: Option<usize>) -> bool
     }
 }
 
-/// Whether a list counts at a position.
+/// Whether a list is outstanding at a position: a module there owns it, or it stands there or above.
 pub fn counts_at(order: &[u64], i: usize, l: &LiveList) -> bool
     ensures { result ≡ counts_at order.now i l.now }
 {
     position(order, l.owner) == i || is_at_most(i, position_in(order, l.last, l.stand))
 }
 
+/// Whether a list that stands so is kept by a module.
 pub fn is_kept_by(m: ModuleId, at: Stand) -> bool
     ensures { result ≡ is_kept_by m at }
 {
@@ -94,6 +95,7 @@ fn is_passed(at: Stand) -> bool
     matches!(at, Stand::Passed { .. })
 }
 
+/// Whether a list of this origin is a clone of the list of a number.
 pub fn is_clone_of(n: u64, origin: Origin) -> bool
     ensures { result ≡ is_clone_of n origin }
 {
@@ -103,6 +105,7 @@ pub fn is_clone_of(n: u64, origin: Origin) -> bool
     }
 }
 
+/// Whether a list was taken to another stack in a message.
 pub fn is_crossed(crossed: Option<CrossNo>) -> bool
     ensures { result ≡ is_crossed crossed }
 {

@@ -161,7 +161,7 @@ fn upward(alloc: Global, ms: &PlainModules, list: ListNo, i: usize) -> Result<Ro
     })
 }
 
-/// Onwards: down for a send, up for a receive.
+/// The row that passes a list onwards from a position: down for a send, up for a receive.
 pub fn onward(
     alloc: Global,
     ms: &PlainModules,
@@ -214,7 +214,7 @@ fn homeward_by(
     }
 }
 
-/// Homewards: done for a send, back for a receive.
+/// The row that passes a list homewards from a position: done for a send, back for a receive.
 pub fn homeward(
     alloc: Global,
     ms: &PlainModules,
@@ -227,7 +227,7 @@ pub fn homeward(
     homeward_by(alloc, ms, l.list, l.owner, l.direction, i, status)
 }
 
-/// A module turns the list back, and it goes homewards from there.
+/// The rows where a module turns a list back: it goes homewards from there.
 pub fn turned_back(
     alloc: Global,
     ms: &PlainModules,

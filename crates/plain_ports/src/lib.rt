@@ -1,10 +1,7 @@
-//! What the miniport has counted and the messages that mux bindings keep, as plain vectors: each
-//! function computes the definition of its name.
+//! What the miniport has counted, and the messages that mux bindings keep, as plain vectors.
 #![tactic(auto)]
 
 pub mod messages;
 pub mod port;
-
-ghost use Rattle.std.specs.Prelude.{◌≡◌};
 
 pub use crate::port::PlainPort;

@@ -1,4 +1,4 @@
-//! What the miniport answers requests by, and the packet filters by which lists are delivered.
+//! What the miniport answers requests by, and the packet filters by which lists are delivered to bindings.
 ghost use Rattle.std.specs.Prelude.{◌≡◌, ◌+◌, OnOk, IfOk, replicate, Some};
 ghost use Rattle.std.specs.Int.{from_le_bytes, w32};
 ghost use Rattle.stack_rules.specs.Net.{port_done, set_when, sets_filter, is_given_to_miniport, no_parent};
@@ -10,11 +10,14 @@ use stack_rules::{Request, RequestAt};
 use std::alloc::Global;
 use std::marker::Model;
 
-/// OID_GEN_CURRENT_PACKET_FILTER.
-pub const PACKET_FILTER: u32 = 65806;
+/// The code of the request that sets a binding's packet filter: OID_GEN_CURRENT_PACKET_FILTER.
+pub const PACKET_FILTER: u32 = 0x0001_010e;
 
-/// The frames that the miniport sent and that it indicated, the packet filters that it answers with,
-/// and those by which lists are delivered.
+/// The packet filter that takes all frames: NDIS_PACKET_TYPE_PROMISCUOUS.
+const ALL_FRAMES: u32 = 0x20;
+
+/// How many frames the miniport sent and indicated, and for each binding the packet filter that the
+/// miniport answers with and the one by which lists are delivered.
 #[derive(Drop)]
 pub struct PlainPort {
     sent: u64,
@@ -36,12 +39,12 @@ fn all_frames(alloc: Global, many: usize) -> Result<Vec<u32>, OutOfMemory>
 {
     let mut filters = Vec::new(alloc);
     for i in 0..many {
-        filters.push(32)?;
+        filters.push(ALL_FRAMES)?;
     }
     Ok(filters)
 }
 
-/// Nothing is sent or indicated, and each of so many bindings takes all frames.
+/// Before any frame is sent or indicated: each of so many bindings takes all frames.
 pub fn first_port(alloc: Global, bindings: usize) -> Result<PlainPort, OutOfMemory>
     ensures { IfOk result (λ p. p ≡ record { sent = 0; received = 0; answers_by = replicate bindings 32; delivers_by = replicate bindings 32 }) }
 {
@@ -53,7 +56,7 @@ pub fn first_port(alloc: Global, bindings: usize) -> Result<PlainPort, OutOfMemo
     })
 }
 
-/// The number of the first four bytes, the least significant first.
+/// The packet filter that the first four bytes make, the least significant first.
 pub fn filter_in(value: &[u8]) -> u32
     ensures { result ≡ from_le_bytes w32 value.now }
 {
@@ -100,31 +103,35 @@ fn set_when(b: bool, filters: &mut Vec<u32>, binding: u32, value: &[u8])
 }
 
 impl PlainPort {
+    /// How many frames the miniport sent.
     pub fn sent(&self) -> u64
         ensures { result ≡ self.now.sent }
     {
         self.sent
     }
 
+    /// How many frames the miniport indicated.
     pub fn received(&self) -> u64
         ensures { result ≡ self.now.received }
     {
         self.received
     }
 
+    /// The packet filter of each binding that the miniport answers with.
     pub fn answers_by(&self) -> &[u32]
         ensures { result.now ≡ self.now.answers_by }
     {
         self.answers_by.as_slice()
     }
 
+    /// The packet filter of each binding by which lists are delivered to it.
     pub fn delivers_by(&self) -> &[u32]
         ensures { result.now ≡ self.now.delivers_by }
     {
         self.delivers_by.as_slice()
     }
 
-    /// So many more frames were sent. A count past the greatest number counts as want of memory.
+    /// Counts so many more frames as sent. A count past the greatest number counts as want of memory.
     pub fn count_sent(&mut self, many: usize) -> Result<(), OutOfMemory>
         ensures { OnOk result (self.new ≡ record self.old { sent = self.old.sent + many }) }
     {
@@ -132,7 +139,7 @@ impl PlainPort {
         Ok(())
     }
 
-    /// So many more frames were indicated. A count past the greatest number counts as want of memory.
+    /// Counts so many more frames as indicated. A count past the greatest number counts as want of memory.
     pub fn count_received(&mut self, many: usize) -> Result<(), OutOfMemory>
         ensures { OnOk result (self.new ≡ record self.old { received = self.old.received + many }) }
     {
@@ -140,7 +147,7 @@ impl PlainPort {
         Ok(())
     }
 
-    /// A request is done.
+    /// Takes the packet filter of a request that was answered, where it sets one.
     pub fn take_done(&mut self, r: &Request, status: OidStatus)
         ensures { self.new ≡ port_done (Some r.now) status self.old }
     {

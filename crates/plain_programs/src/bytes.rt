@@ -12,7 +12,7 @@ pub fn byte_at(frame: &[u8], at: usize) -> u8
     if at < frame.len() { frame[at] } else { 0 }
 }
 
-/// The first bytes, so many or all.
+/// The first so many bytes, or all where there are fewer.
 pub fn front_of(frame: &[u8], many: usize) -> &[u8]
     ensures { result.now ≡ take many frame.now }
 {
@@ -23,7 +23,7 @@ pub fn front_of(frame: &[u8], many: usize) -> &[u8]
     }
 }
 
-/// The bytes from an offset on.
+/// The bytes from an offset on, none past the end.
 pub fn rest_of(frame: &[u8], at: usize) -> &[u8]
     ensures { result.now ≡ drop at frame.now }
 {
@@ -49,7 +49,7 @@ pub fn pair_at(frame: &[u8], at: usize) -> u16
     256 * byte_at(frame, at) as u16 + byte_at(frame, at + 1) as u16
 }
 
-/// Whether the frame has a VLAN tag.
+/// Whether the frame has a whole header with a VLAN tag in it.
 pub fn is_tagged(frame: &[u8]) -> bool
     ensures { result ≡ is_tagged frame.now }
 {
@@ -70,7 +70,7 @@ fn tag(control: u16) -> [u8; 4]
     [0x81, 0, (control / 256) as u8, (control % 256) as u8]
 }
 
-/// The frame with a tag put in.
+/// The frame with a tag put in behind its two addresses.
 pub fn pushed(alloc: Global, control: u16, frame: &[u8]) -> Result<Frame, OutOfMemory>
     ensures { IfOk result (λ made. made ≡ pushed control frame.now) }
 {
@@ -89,7 +89,7 @@ pub fn popped(alloc: Global, frame: &[u8]) -> Result<Frame, OutOfMemory>
     joined(alloc, front_of(frame, 12), &[], rest_of(frame, 16))
 }
 
-/// The frame of three pieces.
+/// The frame that is three pieces, one behind the other.
 pub fn joined(
     alloc: Global,
     first: &[u8],

@@ -1,7 +1,6 @@
-//! Frame programs, plainly: each function computes the definition of its name on a frame of its own.
+//! Frame programs, computed plainly: what the rules of a program make of a frame, and of the frames of a
+//! list.
 #![tactic(auto)]
 
 pub mod bytes;
 pub mod rules;
-
-ghost use Rattle.std.specs.Prelude.{◌≡◌};

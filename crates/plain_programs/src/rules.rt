@@ -1,5 +1,5 @@
 //! What a program makes of a frame, and of the frames of a list.
-ghost use Rattle.std.specs.Prelude.{◌≡◌, IfOk, option_map, Some, None};
+ghost use Rattle.std.specs.Prelude.{◌≡◌, IfOk, option_map, Some};
 ghost use Rattle.std.specs.Str.{bytes_eq};
 ghost use Rattle.program_types.specs.Apply.{holds, act, apply_rule, apply, applied, onto};
 ghost use Rattle.program_types.specs.declared.Action.TheVariants as action;
@@ -12,13 +12,14 @@ use ndis_base::{Frame, OutOfMemory};
 use program_types::{Action, Program, Rule, Test};
 use std::alloc::Global;
 
+/// Whether bytes of a frame are those of an address.
 fn are_bytes(bytes: &[u8], wanted: &[u8]) -> bool
     ensures { result ≡ bytes_eq bytes.now wanted.now }
 {
     bytes == wanted
 }
 
-/// Whether a test holds of a frame.
+/// Whether a rule's test holds of a frame.
 fn holds(test: Test, frame: &[u8]) -> bool
     ensures { result ≡ holds test frame.now }
 {
@@ -118,7 +119,7 @@ fn apply(
     }
 }
 
-/// A value in front of the others, where there are all.
+/// A frame in front of the others, and none where it or they are missing.
 fn onto(frame: Option<Frame>, others: Option<Vec<Frame>>) -> Result<Option<Vec<Frame>>, OutOfMemory>
     ensures { IfOk result (λ all. option_map (λ v. v.items) all ≡ onto frame (option_map (λ v. v.items) others)) }
 {
@@ -135,6 +136,7 @@ fn onto(frame: Option<Frame>, others: Option<Vec<Frame>>) -> Result<Option<Vec<F
     }
 }
 
+/// What rules make of frames.
 fn applied_items(
     alloc: Global,
     max: usize,
@@ -152,7 +154,8 @@ fn applied_items(
     }
 }
 
-/// What a program makes of the frames of a list: none where it makes none of one of them.
+/// What a program makes of the frames of a list, none of which may grow past `max` bytes: none where it
+/// makes nothing of one of them.
 pub fn applied(
     alloc: Global,
     max: usize,

@@ -38,37 +38,42 @@ pub fn first_counters() -> PlainCounters
 }
 
 impl PlainCounters {
+    /// The number of the next list.
     pub fn list(&self) -> u64
         ensures { result ≡ self.now.list }
     {
         self.list
     }
 
+    /// The number of the next request.
     pub fn request(&self) -> u64
         ensures { result ≡ self.now.request }
     {
         self.request
     }
 
+    /// The number of the next status.
     pub fn status(&self) -> u64
         ensures { result ≡ self.now.status }
     {
         self.status
     }
 
+    /// The number of the next message.
     pub fn message(&self) -> u64
         ensures { result ≡ self.now.message }
     {
         self.message
     }
 
+    /// The number of the next filter.
     pub fn filter(&self) -> u64
         ensures { result ≡ self.now.filter }
     {
         self.filter
     }
 
-    /// A list is issued.
+    /// Counts a list that is issued.
     pub fn count_list(&mut self) -> Result<(), OutOfMemory>
         ensures { OnOk result (self.new ≡ record self.old { list = self.old.list + 1 }) }
     {
@@ -76,7 +81,7 @@ impl PlainCounters {
         Ok(())
     }
 
-    /// A request is issued.
+    /// Counts a request that is issued.
     pub fn count_request(&mut self) -> Result<(), OutOfMemory>
         ensures { OnOk result (self.new ≡ record self.old { request = self.old.request + 1 }) }
     {
@@ -84,7 +89,7 @@ impl PlainCounters {
         Ok(())
     }
 
-    /// A status of this number is on its way.
+    /// Counts a status that is on its way, where its number is the next one.
     pub fn count_status(&mut self, number: u64) -> Result<(), OutOfMemory>
         ensures { OnOk result (self.new ≡ record self.old { status = past self.old.status number }) }
     {
@@ -94,7 +99,7 @@ impl PlainCounters {
         Ok(())
     }
 
-    /// A message is taken.
+    /// Counts a message that is taken.
     pub fn count_message(&mut self) -> Result<(), OutOfMemory>
         ensures { OnOk result (self.new ≡ record self.old { message = self.old.message + 1 }) }
     {
@@ -102,7 +107,7 @@ impl PlainCounters {
         Ok(())
     }
 
-    /// A module takes a state.
+    /// Counts a filter where the module is one and begins to attach.
     pub fn count_filter(&mut self, m: ModuleId, s: ModuleState) -> Result<(), OutOfMemory>
         ensures { OnOk result (self.new ≡ record self.old { filter = filter_after m s self.old.filter }) }
     {

@@ -10,7 +10,7 @@ use plain_parts::same::is_hold;
 use stack_rules::Attached;
 use std::alloc::Global;
 
-/// The filter of a number.
+/// The attached filter of this number.
 pub fn attached(f: u64, entries: &[Attached]) -> Option<&Attached>
     ensures { option_copied result ≡ attached f entries.now }
 {
@@ -22,6 +22,7 @@ pub fn attached(f: u64, entries: &[Attached]) -> Option<&Attached>
     None
 }
 
+/// Whether a filter is attached and has the OID pair of handlers.
 pub fn has_oid_pair(a: Option<&Attached>) -> bool
     ensures { result ≡ has_oid_pair (option_copied a.entry) }
 {
@@ -31,6 +32,7 @@ pub fn has_oid_pair(a: Option<&Attached>) -> bool
     }
 }
 
+/// Whether a filter is attached and has the send pair of handlers.
 pub fn send_pair(a: Option<&Attached>) -> bool
     ensures { result ≡ send_pair (option_copied a.entry) }
 {
@@ -40,6 +42,7 @@ pub fn send_pair(a: Option<&Attached>) -> bool
     }
 }
 
+/// Whether a filter is attached and has the receive pair of handlers.
 pub fn receive_pair(a: Option<&Attached>) -> bool
     ensures { result ≡ receive_pair (option_copied a.entry) }
 {
@@ -49,6 +52,7 @@ pub fn receive_pair(a: Option<&Attached>) -> bool
     }
 }
 
+/// Whether a filter is attached and has the status handler.
 pub fn status_handler(a: Option<&Attached>) -> bool
     ensures { result ≡ status_handler (option_copied a.entry) }
 {
@@ -58,6 +62,7 @@ pub fn status_handler(a: Option<&Attached>) -> bool
     }
 }
 
+/// How many lists a filter's pool has; none where it isn't attached.
 pub fn pool_in(a: Option<&Attached>) -> usize
     ensures { result ≡ pool_in (option_copied a.entry) }
 {
@@ -67,6 +72,7 @@ pub fn pool_in(a: Option<&Attached>) -> usize
     }
 }
 
+/// A filter's state; one that isn't attached is Detached.
 pub fn state_in(a: Option<&Attached>) -> ModuleState
     ensures { result ≡ state_in (option_copied a.entry) }
 {
@@ -76,6 +82,7 @@ pub fn state_in(a: Option<&Attached>) -> ModuleState
     }
 }
 
+/// Whether a filter is attached and is a hold filter.
 pub fn hold_in(a: Option<&Attached>) -> bool
     ensures { result ≡ hold_in (option_copied a.entry) }
 {
@@ -101,7 +108,7 @@ fn is_detached(s: ModuleState) -> bool
     matches!(s, ModuleState::Detached)
 }
 
-/// A filter's state changes; a detached filter is forgotten.
+/// The filters after one took a state; a filter that is Detached is forgotten.
 pub fn filters_after(
     alloc: Global,
     f: u64,
@@ -148,7 +155,7 @@ fn with_states(
     Ok(after)
 }
 
-/// The filters below a filter, from top to bottom.
+/// The filters that stand below this one in an order from top to bottom.
 pub fn below(f: u64, order: &[u64]) -> &[u64]
     ensures { result.now ≡ below f order.now }
 {

@@ -59,55 +59,63 @@ pub fn first_modules(alloc: Global, bindings: usize) -> Result<PlainModules, Out
 }
 
 impl PlainModules {
+    /// The state of the miniport.
     pub fn miniport(&self) -> ModuleState
         ensures { result ≡ self.now.miniport }
     {
         self.miniport
     }
 
+    /// The state of each binding.
     pub fn bindings(&self) -> &[ModuleState]
         ensures { result.now ≡ self.now.bindings }
     {
         self.bindings.as_slice()
     }
 
+    /// The number of the configuration.
     pub fn config(&self) -> u64
         ensures { result ≡ self.now.config }
     {
         self.config
     }
 
+    /// The filters of the configuration, from top to bottom.
     pub fn order(&self) -> &[u64]
         ensures { result.now ≡ self.now.order }
     {
         self.order.as_slice()
     }
 
-    /// The filter of a number.
+    /// The attached filter of this number.
     pub fn attached(&self, f: u64) -> Option<&Attached>
         ensures { option_copied result ≡ attached f self.now.filters }
     {
         attached(f, self.filters.as_slice())
     }
 
+    /// Whether the filter has the OID pair of handlers.
     pub fn has_oid(&self, f: u64) -> bool
         ensures { result ≡ has_oid self.now f }
     {
         has_oid_pair(self.attached(f))
     }
 
+    /// Whether the filter has the send pair of handlers.
     pub fn has_send(&self, f: u64) -> bool
         ensures { result ≡ has_send self.now f }
     {
         send_pair(self.attached(f))
     }
 
+    /// Whether the filter has the receive pair of handlers.
     pub fn has_receive(&self, f: u64) -> bool
         ensures { result ≡ has_receive self.now f }
     {
         receive_pair(self.attached(f))
     }
 
+    /// Whether the filter has the status handler.
     pub fn has_status(&self, f: u64) -> bool
         ensures { result ≡ has_status self.now f }
     {
@@ -152,7 +160,7 @@ impl PlainModules {
         Ok(())
     }
 
-    /// There is another configuration.
+    /// Takes another configuration.
     pub fn take_config(&mut self, config: u64, order: Vec<u64>)
         ensures { self.new ≡ record self.old { config = config; order = order.items } }
     {
@@ -160,7 +168,7 @@ impl PlainModules {
         self.order = order;
     }
 
-    /// There is one more filter.
+    /// Attaches one more filter.
     pub fn take_filter(&mut self, a: Attached) -> Result<(), OutOfMemory>
         ensures { OnOk result (self.new ≡ record self.old { filters = self.old.filters ++ a ∷ [] }) }
     {

@@ -1,4 +1,4 @@
-//! The requests that aren't done.
+//! The requests that aren't answered.
 ghost use Rattle.std.specs.Prelude.{◌≡◌, ◌==◌, not, IfOk, option_copied, filter, map};
 ghost use Rattle.stack_rules.specs.Net.{request_of, place_below, place_of_clone, place_of_request, given_to};
 
@@ -8,7 +8,7 @@ use ndis_base::{ModuleId, OidNo, OutOfMemory};
 use stack_rules::{Request, RequestAt};
 use std::alloc::Global;
 
-/// The request of a number.
+/// The request of this number.
 pub fn request_of(n: u64, requests: &[Request]) -> Option<&Request>
     ensures { option_copied result ≡ request_of n requests.now }
 {
@@ -61,7 +61,7 @@ fn given_to(n: u64, m: ModuleId, r: Request) -> Request
     r
 }
 
-/// The request of a number is given to a module.
+/// The requests after the one of this number was given to a module.
 pub fn requests_given(
     alloc: Global,
     n: u64,
@@ -77,7 +77,7 @@ pub fn requests_given(
     Ok(after)
 }
 
-/// The requests but that of a number.
+/// The requests without the one of this number.
 pub fn without_request(
     alloc: Global,
     n: u64,

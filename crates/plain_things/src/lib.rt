@@ -1,7 +1,5 @@
-//! The lists, statuses and answers on their way or kept, as a plain vector: each function computes the
-//! definition of its name.
+//! The lists, statuses and answers that are on their way or kept, as a plain vector in the order of their
+//! last row.
 #![tactic(auto)]
 
 pub mod things;
-
-ghost use Rattle.std.specs.Prelude.{◌≡◌};

@@ -1,5 +1,5 @@
-//! What is kept or on its way, in the order of its last row.
-ghost use Rattle.std.specs.Prelude.{◌≡◌, ◌∷◌, ◌++◌, [], not, IfOk, Some, option_copied, filter, map};
+//! What each row does to the lists, statuses and answers of a stack.
+ghost use Rattle.std.specs.Prelude.{◌≡◌, not, IfOk, Some, option_copied, filter};
 ghost use Rattle.stack_rules.specs.Net.{lists, list_of, is_list, without, with_list, changed, at_end, kept_by, passed_to, kept, passed, answers, without_status, is_status, answer_to, things_done, taken_by, had_by};
 
 use journal_types::{PassWay, Target};
@@ -8,7 +8,7 @@ use plain_parts::copies::copy_list;
 use stack_rules::{Answered, LiveList, Request, Stand, Thing};
 use std::alloc::Global;
 
-/// The live list of a number.
+/// The live list of this number.
 pub fn list_of(n: u64, things: &[Thing]) -> Option<&LiveList>
     ensures { option_copied result ≡ list_of n (lists things.now) }
 {
@@ -32,7 +32,7 @@ fn is_list(n: u64, t: &Thing) -> bool
     }
 }
 
-/// The things but the list of a number.
+/// The things without the list of this number.
 pub fn without(alloc: Global, n: u64, things: Vec<Thing>) -> Result<Vec<Thing>, OutOfMemory>
     ensures { IfOk result (λ after. after.items ≡ without n things.items) }
 {
@@ -61,7 +61,7 @@ fn thing_had_by(n: u64, m: ModuleId, t: Thing) -> Thing
     }
 }
 
-/// A module has the list of a number.
+/// The things after a module was given the list of this number, or turned it back.
 pub fn things_had_by(
     alloc: Global,
     n: u64,
@@ -93,7 +93,7 @@ fn thing_taken_by(n: u64, message: u64, t: Thing) -> Thing
     }
 }
 
-/// The list of a number is taken in a message.
+/// The things after the list of this number was taken to another stack in a message.
 pub fn things_taken_by(
     alloc: Global,
     n: u64,
@@ -157,7 +157,7 @@ fn at_end(things: Vec<Thing>, l: Option<LiveList>) -> Result<Vec<Thing>, OutOfMe
     Ok(after)
 }
 
-/// The list of a number goes to the end, as kept.
+/// The things after a module kept the list of this number, which goes to the end.
 pub fn kept(
     alloc: Global,
     n: u64,
@@ -170,7 +170,7 @@ pub fn kept(
     at_end(without(alloc, n, things)?, moved)
 }
 
-/// The list of a number goes to the end, as passed.
+/// The things after the list of this number was passed on, which goes to the end.
 pub fn passed(
     alloc: Global,
     n: u64,
@@ -194,7 +194,7 @@ fn is_status(n: u64, t: &Thing) -> bool
     }
 }
 
-/// The things but the status of a number.
+/// The things without the status of this number.
 pub fn without_status(alloc: Global, n: u64, things: Vec<Thing>) -> Result<Vec<Thing>, OutOfMemory>
     ensures { IfOk result (λ after. after.items ≡ without_status n things.items) }
 {
@@ -255,7 +255,8 @@ fn answer_to(
     Ok(after)
 }
 
-/// A request is done: it is its parent's answer, or no more.
+/// The things after a request was answered: what it had been answered by is gone, and it is its parent's
+/// answer, where it has a parent.
 pub fn things_done(
     alloc: Global,
     r: &Request,
