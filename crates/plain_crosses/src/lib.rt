@@ -2,5 +2,3 @@
 #![tactic(auto)]
 
 pub mod crosses;
-
-ghost use Rattle.std.specs.Prelude.{◌≡◌};

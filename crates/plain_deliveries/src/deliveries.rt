@@ -140,7 +140,8 @@ fn delivery_row(
     })
 }
 
-/// The delivery rows, n being the number of the next list: own is how the last one gets it.
+/// The rows of a delivery to these bindings: own is how the last one gets the list, n the number of the next
+/// list.
 pub fn delivered(
     alloc: Global,
     net: &PlainNet,
@@ -213,7 +214,7 @@ fn settled(
     }
 }
 
-/// An owned list is delivered.
+/// The rows of an owned list at the bindings: it is delivered, and then kept or returned.
 pub fn delivery_rows(
     alloc: Global,
     net: &PlainNet,

@@ -77,7 +77,7 @@ fn completed_by(d: Direction) -> Handler
     }
 }
 
-/// A list on its way done or back is worked.
+/// The rows of a list on its way home, done or returned, at the module that it comes to.
 pub fn homeward_rows(
     alloc: Global,
     net: &PlainNet,

@@ -3,5 +3,3 @@
 
 pub mod deliveries;
 pub mod dones;
-
-ghost use Rattle.std.specs.Prelude.{◌≡◌};

@@ -4,5 +4,3 @@
 pub mod requests;
 pub mod statuses;
 pub mod table;
-
-ghost use Rattle.std.specs.Prelude.{◌≡◌};

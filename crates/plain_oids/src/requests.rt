@@ -232,6 +232,7 @@ fn given_rows_by(
     }
 }
 
+/// The rows of a request that is given to a module.
 pub fn giving_rows(alloc: Global, net: &PlainNet, g: &PlainGiving) -> Result<Vec<Row>, OutOfMemory>
     ensures { IfOk result (λ rows. rows.items ≡ giving_rows net.now g.now) }
 {
@@ -261,6 +262,7 @@ pub fn answer_rows(
     )
 }
 
+/// A binding makes a request, which waits at the entry: refused where it is Unbound.
 pub fn ask_outcome(
     alloc: Global,
     net: &PlainNet,

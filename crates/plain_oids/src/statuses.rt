@@ -13,6 +13,7 @@ use plain_places::places::position;
 use plain_places::targets::next_status;
 use std::alloc::Global;
 
+/// The miniport indicates a status: refused where it is Halted.
 pub fn status_outcome(
     alloc: Global,
     net: &PlainNet,
@@ -52,7 +53,7 @@ fn seen_by_all(
     }
 }
 
-/// A status on its way is worked.
+/// The rows of a status on its way, at a module or at all bindings.
 pub fn status_rows(
     alloc: Global,
     net: &PlainNet,

@@ -1,6 +1,5 @@
 //! What the miniport answers to OID requests. Values have the least significant byte first.
 ghost use Rattle.std.specs.Prelude.{◌≡◌, [], slice_index};
-ghost use Rattle.std.specs.Int.{to_le_bytes, w32, w64};
 ghost use Rattle.ndis_base.specs.declared.OidStatus.TheVariants.{Success, NotSupported, BadLength};
 ghost use Rattle.stack_rules.specs.OidTable.{queried, query_only, may_set, filter_set, packet_filter, report_of, reported};
 
@@ -9,6 +8,20 @@ use plain_net::PlainNet;
 use plain_ports::port::{PACKET_FILTER, filter_in};
 use stack_rules::Request;
 use std::marker::Model;
+
+// Further OIDs that the miniport answers to, by the numbers that NDIS gives them.
+const MAXIMUM_FRAME_SIZE: u32 = 0x0001_0106;
+
+const XMIT_OK: u32 = 0x0002_0101;
+
+const RCV_OK: u32 = 0x0002_0102;
+
+const PERMANENT_ADDRESS: u32 = 0x0101_0101;
+
+const CURRENT_ADDRESS: u32 = 0x0101_0102;
+
+/// The longest payload of a frame, in bytes.
+const MAX_PAYLOAD: u32 = 1500;
 
 /// The miniport's answer.
 #[derive(Drop)]
@@ -130,17 +143,17 @@ pub fn report_of(net: &PlainNet, r: &Request) -> PlainReport
 {
     let value = &r.value;
     let port = net.port();
-    if r.code == 65798 {
-        query_only(r.kind, value, OidValue::of(&1500u32.to_le_bytes()))
+    if r.code == MAXIMUM_FRAME_SIZE {
+        query_only(r.kind, value, OidValue::of(&MAX_PAYLOAD.to_le_bytes()))
     } else if r.code == PACKET_FILTER {
         packet_filter(r.kind, value, filter_of(port.answers_by(), r.binding))
-    } else if r.code == 131329 {
+    } else if r.code == XMIT_OK {
         query_only(r.kind, value, OidValue::of(&port.sent().to_le_bytes()))
-    } else if r.code == 131330 {
+    } else if r.code == RCV_OK {
         query_only(r.kind, value, OidValue::of(&port.received().to_le_bytes()))
-    } else if r.code == 16843009 {
+    } else if r.code == PERMANENT_ADDRESS {
         query_only(r.kind, value, OidValue::of(&net.head().port.address))
-    } else if r.code == 16843010 {
+    } else if r.code == CURRENT_ADDRESS {
         query_only(r.kind, value, OidValue::of(&net.head().port.address))
     } else {
         not_supported()

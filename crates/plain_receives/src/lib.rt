@@ -2,5 +2,3 @@
 #![tactic(auto)]
 
 pub mod receives;
-
-ghost use Rattle.std.specs.Prelude.{◌≡◌};

@@ -80,7 +80,7 @@ fn up_at_bindings(
     }
 }
 
-/// A list on its way up is worked; at the bindings the first one stands for all.
+/// The rows of a list on its way up, at a filter or at the bindings; the first binding turns back for all.
 pub fn up_rows(
     alloc: Global,
     net: &PlainNet,
@@ -123,6 +123,7 @@ pub fn indicated(alloc: Global, net: &PlainNet, frames: &Frames) -> Result<Vec<R
     )
 }
 
+/// The miniport indicates frames that came in: refused where it isn't Running, or its pool has no list.
 pub fn indicate_outcome(
     alloc: Global,
     net: &PlainNet,
@@ -377,6 +378,7 @@ fn lent_rows(alloc: Global, net: &PlainNet, frames: &Frames) -> Result<Vec<Row>,
     )
 }
 
+/// The miniport lends a list for one turn: refused where it isn't Running, or its pool has no list.
 pub fn lend_outcome(
     alloc: Global,
     net: &PlainNet,
@@ -423,7 +425,7 @@ fn give_back_of(
     }
 }
 
-/// A binding returns a list that it keeps.
+/// A binding returns a list that it keeps: refused where it doesn't keep it.
 pub fn give_back_outcome(
     alloc: Global,
     net: &PlainNet,

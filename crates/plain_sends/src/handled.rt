@@ -174,7 +174,7 @@ fn given_by(d: Direction) -> Handler
     }
 }
 
-/// The rows of a list that a filter is given.
+/// The rows by which a filter handles a list that it is given.
 pub fn filter_rows(
     alloc: Global,
     net: &PlainNet,
@@ -193,7 +193,7 @@ pub fn filter_rows(
     row_before(give, handled_as(alloc, net, a, l, keeps, made)?)
 }
 
-/// The same, where there is a filter.
+/// The rows of a list at a filter, none where the stack has no such filter.
 pub fn at_filter(
     alloc: Global,
     net: &PlainNet,

@@ -3,5 +3,3 @@
 
 pub mod handled;
 pub mod sends;
-
-ghost use Rattle.std.specs.Prelude.{◌≡◌};

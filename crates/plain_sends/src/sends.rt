@@ -45,6 +45,7 @@ fn sent(
     )
 }
 
+/// A binding sends frames: refused while the stack doesn't run, or where its pool has no list.
 pub fn send_outcome(
     alloc: Global,
     net: &PlainNet,
@@ -109,7 +110,7 @@ fn miniport_rows(alloc: Global, net: &PlainNet, l: &LiveList) -> Result<Vec<Row>
     }
 }
 
-/// A list on its way down is worked.
+/// The rows of a list on its way down, at the module that it comes to.
 pub fn down_rows(
     alloc: Global,
     net: &PlainNet,
