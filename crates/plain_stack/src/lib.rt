@@ -1,6 +1,7 @@
 //! The rules of the stack, computed plainly by their definitions: whether an event may be asked
-//! (`may_ask`), what it answers and writes (`outcome_of`), and the state after one more row (`PlainNet::note`) or
-//! one more turn (`note_turn`). Nothing of the drivers, the pools and the indexes of a stack is used here.
+//! (`may_ask`), what it answers and writes (`outcome_of`), and the state after one more row
+//! (`PlainNet::note`) or one more turn (`note_turn`). Nothing of the drivers, the pools and the
+//! indexes of a stack is used here.
 #![tactic(auto)]
 
 pub mod events;

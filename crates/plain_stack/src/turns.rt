@@ -18,8 +18,8 @@ fn note_rows(net: &mut PlainNet, rows: &[Row]) -> Result<(), OutOfMemory>
     }
 }
 
-/// Notes one more turn: what its event and reply tell, and its rows. After want of memory the state is not
-/// to be used further.
+/// Notes one more turn: what its event and reply tell, and its rows. After want of memory the state
+/// is not to be used further.
 pub fn note_turn(net: &mut PlainNet, turn: &Turn) -> Result<(), OutOfMemory>
     ensures { OnOk result (net.new ≡ after_turn net.old turn.now) }
 {
