@@ -1,7 +1,8 @@
 //! When an event may be asked: the stack's own head decides it.
-ghost use Rattle.std.specs.Prelude.{◌≡◌, ◌+◌, ◌≤◌, length};
+ghost use Rattle.std.specs.Prelude.{◌≡◌, ◌+◌, ◌≤◌, length, slice_index_or};
 ghost use Rattle.std.specs.List.{list_all, list_any};
-ghost use Rattle.stack_rules.specs.Net.{kind_of_binding, numbers_from};
+ghost use Rattle.ndis_base.specs.declared.ProtocolKind.TheVariants as protocol_kind;
+ghost use Rattle.stack_rules.specs.Net.{numbers_from};
 ghost use Rattle.stack_rules.specs.Tests.{is_mux};
 ghost use Rattle.stack_rules.specs.Conditions.{is_frame, are_frames, is_fine_test, is_program, is_setup, has_binding, is_identifier, is_cancel, is_link, has_mux, is_lower, may_ask};
 
@@ -96,10 +97,9 @@ fn has_link(b: u32, vlan: u16, links: &[(u8, u32, u16)]) -> bool
     false
 }
 
-fn kind_at(head: &StackHead, b: usize) -> ProtocolKind
-    ensures { result ≡ kind_of_binding head.now b }
+fn kind_at(bindings: &[(ProtocolKind, usize)], b: usize) -> ProtocolKind
+    ensures { result ≡ (slice_index_or bindings.now b (protocol_kind.Log, 0)).0 }
 {
-    let bindings = head.bindings.items();
     if b < bindings.len() {
         bindings[b].0
     } else {
@@ -107,20 +107,28 @@ fn kind_at(head: &StackHead, b: usize) -> ProtocolKind
     }
 }
 
-fn has_mux_from(head: &StackHead, b: usize, setups: &[(ProtocolKind, usize)]) -> bool
-    requires { b + length setups.now ≤ length head.now.bindings }
-    ensures { result ≡ list_any (λ c. is_mux (kind_of_binding head.now c)) (numbers_from b setups.now) }
+/// Whether a binding of some setups, of which the first is that of the binding `b`, is a mux binding.
+fn has_mux_from(
+    bindings: &[(ProtocolKind, usize)],
+    b: usize,
+    setups: &[(ProtocolKind, usize)],
+) -> bool
+    requires { b + length setups.now ≤ length bindings.now }
+    ensures { result ≡ list_any (λ c. is_mux (slice_index_or bindings.now c (protocol_kind.Log, 0)).0) (numbers_from b setups.now) }
 {
     match setups {
         [] => false,
-        [_, others @ ..] => is_mux(kind_at(head, b)) || has_mux_from(head, b + 1, others),
+        [_, others @ ..] => {
+            is_mux(kind_at(bindings, b)) || has_mux_from(bindings, b + 1, others)
+        }
     }
 }
 
 fn has_mux(head: &StackHead) -> bool
     ensures { result ≡ has_mux head.now }
 {
-    has_mux_from(head, 0, head.bindings.items())
+    let bindings = head.bindings.items();
+    has_mux_from(bindings, 0, bindings)
 }
 
 /// Whether the stack is the one below.
