@@ -6,8 +6,8 @@ use Rattle.journal_types.specs.declared.Event.{Event}
 use Rattle.journal_types.specs.declared.Reply.{Reply}
 use Rattle.journal_types.specs.declared.Reply.TheVariants as reply
 use Rattle.journal_types.specs.declared.Turn.{Turn}
-use Rattle.plain_walk.specs.declared.Answer.{Answer}
-use Rattle.plain_walk.specs.declared.Answer.TheVariants as answer
+use Rattle.plain_walk.specs.declared.stacks.Answer.{Answer}
+use Rattle.plain_walk.specs.declared.stacks.Answer.TheVariants as answer
 use Rattle.stack_rules.specs.Net.{Net, after_turn, seen}
 use Rattle.stack_rules.specs.Sound.{outcome}
 use Rattle.plain_walk.specs.Choices.{choice_for}

@@ -1,5 +1,5 @@
 //! The walk of a whole script.
-ghost use Rattle.std.specs.Prelude.{◌<◌, ◌≤◌, ×, IfSome, length};
+ghost use Rattle.std.specs.Prelude.{◌<◌, IfSome, length};
 
 use crate::heads::head_of;
 use crate::relays::{Link, link_of, relay_down, relay_up};
