@@ -1,4 +1,4 @@
-use Rattle.std.proofs.Common.{◌≡◌, Some, sym}
+use Rattle.std.proofs.Common.{sym}
 use Rattle.plain_walk.proofs.Turns.{stands_more}
 use Rattle.plain_walk.proofs.stacks.WalkedStack.turn.Goals as goal
 
