@@ -21,11 +21,7 @@ fn upper_of(number: u8, upper: u8, miniport: &MiniportSetup) -> Option<(u8, u32,
     }
 }
 
-fn uppers_of(
-    alloc: Global,
-    number: u8,
-    stacks: &[StackSetup],
-) -> Result<UpperLinks, OutOfMemory> {
+fn uppers_of(alloc: Global, number: u8, stacks: &[StackSetup]) -> Result<UpperLinks, OutOfMemory> {
     let mut uppers = Vec::new(alloc);
     for (i, stack) in stacks.iter().enumerate() {
         if let Some(upper) = upper_of(number, i.min(255) as u8, &stack.miniport) {

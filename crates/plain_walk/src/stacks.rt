@@ -100,12 +100,7 @@ fn note_rows(net: &mut PlainNet, rows: &[Row]) -> Result<(), OutOfMemory>
 }
 
 // The turn that an event makes; the state becomes the one after it.
-fn make_turn(
-    alloc: Global,
-    net: &mut PlainNet,
-    who: Who,
-    event: Event,
-) -> Result<Turn, OutOfMemory>
+fn make_turn(alloc: Global, net: &mut PlainNet, who: Who, event: Event) -> Result<Turn, OutOfMemory>
     ensures turn { IfOk result (λ turn. turn ≡ turn_of net.old who event) }
     ensures after { OnOk result (net.new ≡ after_turn net.old (turn_of net.old who event)) }
 {

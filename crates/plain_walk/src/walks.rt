@@ -71,11 +71,7 @@ fn relay(
     }
 }
 
-fn one_call(
-    alloc: Global,
-    stacks: &mut [WalkedStack],
-    asked: &Call,
-) -> Result<(), OutOfMemory> {
+fn one_call(alloc: Global, stacks: &mut [WalkedStack], asked: &Call) -> Result<(), OutOfMemory> {
     let who = Who::Call(asked.lane);
     let help = Who::Help(asked.lane);
     let at = asked.stack as usize;
@@ -176,11 +172,7 @@ fn end_all(stacks: &mut [WalkedStack]) -> Result<(), OutOfMemory> {
 /// Walks a script, and gives its stacks with their journals, the lowest first. The stacks are opened from
 /// the lowest on. For each lane in the order the lane's next call is made, a lane without calls left being
 /// skipped; then the rest, lane by lane. The stacks are ended from the highest on.
-pub fn walk(
-    alloc: Global,
-    script: &Script,
-    order: &[u8],
-) -> Result<Vec<WalkedStack>, OutOfMemory> {
+pub fn walk(alloc: Global, script: &Script, order: &[u8]) -> Result<Vec<WalkedStack>, OutOfMemory> {
     let mut walked = open_all(alloc, script.stacks.items())?;
     make_calls(alloc, walked.as_mut_slice(), script, order)?;
     end_all(walked.as_mut_slice())?;
