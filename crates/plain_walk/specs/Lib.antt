@@ -1,3 +1,4 @@
 pub mod Choices
+pub mod Heads
 pub mod Walked
 pub mod Stands
