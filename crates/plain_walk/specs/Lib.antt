@@ -1,0 +1,4 @@
+pub mod Choices
+pub mod Heads
+pub mod Walked
+pub mod Stands
