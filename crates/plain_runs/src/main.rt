@@ -3,19 +3,42 @@
 //! of lanes.
 #![tactic(auto)]
 
-mod fault;
-mod programs;
-mod read;
-mod setups;
-
-use crate::fault::Fault;
-use crate::read::{read_order, read_script};
 use ndis_base::OutOfMemory;
 use ndis_journal::write_text;
-use plain_walk::stacks::WalkedStack;
-use plain_walk::walk;
+use plain_walk::{WalkedStack, walk};
+use script_file::{ScriptFault, read_script};
 use std::alloc::Global;
 use std::{fs, io};
+
+/// Why a script wasn't walked.
+#[derive(Clone, Copy, Debug)]
+enum Fault {
+    Script(ScriptFault),
+    Memory,
+}
+
+impl From<OutOfMemory> for Fault {
+    fn from(_fault: OutOfMemory) -> Fault {
+        Fault::Memory
+    }
+}
+
+impl From<ScriptFault> for Fault {
+    fn from(fault: ScriptFault) -> Fault {
+        Fault::Script(fault)
+    }
+}
+
+/// The lanes of an order, separated by commas.
+fn lanes_of(alloc: Global, order: &str) -> Result<Vec<u8>, OutOfMemory> {
+    let mut lanes = Vec::new(alloc);
+    for byte in order.as_bytes() {
+        if b'0' <= *byte && *byte <= b'9' {
+            lanes.push(*byte - b'0')?;
+        }
+    }
+    Ok(lanes)
+}
 
 fn report_of(alloc: Global, stacks: &[WalkedStack]) -> Result<Vec<u8>, OutOfMemory> {
     let mut report = Vec::new(alloc);
@@ -26,9 +49,9 @@ fn report_of(alloc: Global, stacks: &[WalkedStack]) -> Result<Vec<u8>, OutOfMemo
 }
 
 fn walked(alloc: Global, script: &str, order: &str) -> Result<Vec<u8>, Fault> {
-    let order = read_order(alloc, order)?;
-    let script = read_script(alloc, script)?;
-    let stacks = walk(alloc, script, order.as_slice())?;
+    let lanes = lanes_of(alloc, order)?;
+    let script = read_script(alloc, script.as_bytes())?;
+    let stacks = walk(alloc, &script, lanes.as_slice())?;
     Ok(report_of(alloc, stacks.as_slice())?)
 }
 

@@ -4,8 +4,8 @@
 #![tactic(auto)]
 
 pub mod fits;
+pub mod heads;
 pub mod relays;
-pub mod script;
 pub mod sizes;
 pub mod stacks;
 pub mod tails;
@@ -13,5 +13,5 @@ pub mod walks;
 
 ghost use Rattle.std.specs.Prelude.{◌≡◌};
 
-pub use crate::script::{Call, FilterAt, PlainScript, StackAt, What};
+pub use crate::stacks::{Answer, WalkedStack};
 pub use crate::walks::walk;

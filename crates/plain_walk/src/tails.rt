@@ -1,9 +1,10 @@
 //! Tails, the opening and the ending of a stack.
-use crate::script::FilterAt;
 use crate::stacks::{Answer, WalkedStack};
 use journal_types::Event;
 use ndis_base::{OutOfMemory, Phase, Who};
-use std::collections::VecDeque;
+use plain_parts::copies::copy_setup;
+use script_types::FilterSetup;
+use std::alloc::Global;
 
 /// A walk gives up a tail of more turns: no script of this size has one.
 const MOST_TURNS: usize = 16_777_216;
@@ -54,10 +55,15 @@ pub fn restart_until_running(
     Err(OutOfMemory)
 }
 
-fn insert_all(stack: &mut WalkedStack, filters: VecDeque<FilterAt>) -> Result<(), OutOfMemory> {
+fn insert_all(
+    alloc: Global,
+    stack: &mut WalkedStack,
+    filters: &[FilterSetup],
+) -> Result<(), OutOfMemory> {
     for filter in filters {
-        let position = stack.filters().saturating_add(1).min(255) as u8;
-        let FilterAt { kind, setup } = filter;
+        let position = stack.filters()?.saturating_add(1).min(255) as u8;
+        let setup = copy_setup(alloc, &filter.setup)?;
+        let kind = filter.kind;
         let _ = stack.turn(
             Who::Own,
             Event::Insert {
@@ -70,24 +76,28 @@ fn insert_all(stack: &mut WalkedStack, filters: VecDeque<FilterAt>) -> Result<()
     Ok(())
 }
 
-/// Opens a stack with its filters.
-pub fn open(stack: &mut WalkedStack, filters: VecDeque<FilterAt>) -> Result<(), OutOfMemory> {
+/// Opens a stack with its filters, from top to bottom.
+pub fn open(
+    alloc: Global,
+    stack: &mut WalkedStack,
+    filters: &[FilterSetup],
+) -> Result<(), OutOfMemory> {
     if let Answer::Refused(_) = stack.turn(Who::Own, Event::Initialize)? {
         return Ok(());
     }
-    insert_all(stack, filters)?;
+    insert_all(alloc, stack, filters)?;
     restart_until_running(stack, Who::Own, Answer::Other)
 }
 
 /// Ends a stack: it comes to rest, is paused, and is halted.
 pub fn end(stack: &mut WalkedStack) -> Result<(), OutOfMemory> {
-    if matches!(stack.phase(), Phase::Halted) {
+    if matches!(stack.phase()?, Phase::Halted) {
         return Ok(());
     }
-    if matches!(stack.phase(), Phase::Pausing) {
+    if matches!(stack.phase()?, Phase::Pausing) {
         pause_until_paused(stack, Who::Own, Answer::Other)?;
     }
-    if matches!(stack.phase(), Phase::Paused | Phase::Restarting) {
+    if matches!(stack.phase()?, Phase::Paused | Phase::Restarting) {
         restart_until_running(stack, Who::Own, Answer::Other)?;
     }
     pump_until_idle(stack, Who::Own)?;

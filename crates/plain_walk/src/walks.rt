@@ -1,56 +1,25 @@
 //! The walk of a whole script.
+ghost use Rattle.std.specs.Prelude.{◌<◌, ◌≤◌, ×, IfSome, length};
+
+use crate::heads::head_of;
 use crate::relays::{Link, link_of, relay_down, relay_up};
-use crate::script::{Call, PlainScript, StackAt, What};
 use crate::stacks::WalkedStack;
 use crate::tails::{call, end, open};
 use journal_types::Way;
-use ndis_base::{LaneNo, OutOfMemory, Who};
+use ndis_base::{OutOfMemory, Who};
+use script_events::event_of_call;
+use script_types::{Call, CallKind, Script, StackSetup};
 use std::alloc::Global;
-use std::collections::VecDeque;
 
-fn open_all(alloc: Global, stacks: VecDeque<StackAt>) -> Result<Vec<WalkedStack>, OutOfMemory> {
+fn open_all(alloc: Global, stacks: &[StackSetup]) -> Result<Vec<WalkedStack>, OutOfMemory> {
     let mut walked = Vec::new(alloc);
-    for at in stacks {
-        let StackAt { head, filters } = at;
+    for (i, at) in stacks.iter().enumerate() {
+        let head = head_of(alloc, i.min(255) as u8, at, stacks)?;
         let mut stack = WalkedStack::start(alloc, head)?;
-        open(&mut stack, filters)?;
+        open(alloc, &mut stack, at.filters.items())?;
         walked.push(stack)?;
     }
     Ok(walked)
-}
-
-fn relay(
-    stacks: &mut [WalkedStack],
-    at: usize,
-    way: Way,
-    who: Who,
-    help: Who,
-    pumps: bool,
-) -> Result<(), OutOfMemory> {
-    let link = if at < stacks.len() {
-        link_of(&stacks[at])
-    } else {
-        None
-    };
-    match link {
-        None => Ok(()),
-        Some(link) => {
-            if at < stacks.len() && link.lower < at {
-                let (below, above) = stacks.split_at_mut(at);
-                relay_between(
-                    &mut above[0],
-                    &mut below[link.lower],
-                    link,
-                    way,
-                    who,
-                    help,
-                    pumps,
-                )
-            } else {
-                Ok(())
-            }
-        }
-    }
 }
 
 fn relay_between(
@@ -71,16 +40,53 @@ fn relay_between(
     }
 }
 
-fn one_call(stacks: &mut Vec<WalkedStack>, lane: usize, next: Call) -> Result<(), OutOfMemory> {
-    let number = LaneNo(lane.min(255) as u8);
-    let who = Who::Call(number);
-    let help = Who::Help(number);
-    let Call { stack, pumps, what } = next;
-    match what {
-        What::Relay(way) => relay(stacks.as_mut_slice(), stack, way, who, help, pumps),
-        What::Event(event) => {
-            if stack < stacks.len() {
-                call(&mut stacks[stack], who, help, event, pumps)
+fn relay(
+    stacks: &mut [WalkedStack],
+    at: usize,
+    way: Way,
+    who: Who,
+    help: Who,
+    pumps: bool,
+) -> Result<(), OutOfMemory> {
+    if stacks.len() <= at {
+        return Ok(());
+    }
+    match link_of(&stacks[at]) {
+        None => Ok(()),
+        Some(link) => {
+            if at <= link.lower {
+                return Ok(());
+            }
+            let (below, above) = stacks.split_at_mut(at);
+            relay_between(
+                &mut above[0],
+                &mut below[link.lower],
+                link,
+                way,
+                who,
+                help,
+                pumps,
+            )
+        }
+    }
+}
+
+fn one_call(
+    alloc: Global,
+    stacks: &mut [WalkedStack],
+    asked: &Call,
+) -> Result<(), OutOfMemory> {
+    let who = Who::Call(asked.lane);
+    let help = Who::Help(asked.lane);
+    let at = asked.stack as usize;
+    if let CallKind::Relay { way } = &asked.kind {
+        return relay(stacks, at, *way, who, help, asked.pump);
+    }
+    match event_of_call(alloc, &asked.kind)? {
+        None => Ok(()),
+        Some(event) => {
+            if at < stacks.len() {
+                call(&mut stacks[at], who, help, event, asked.pump)
             } else {
                 Ok(())
             }
@@ -88,70 +94,95 @@ fn one_call(stacks: &mut Vec<WalkedStack>, lane: usize, next: Call) -> Result<()
     }
 }
 
-fn next_of(lanes: &mut Vec<VecDeque<Call>>, lane: usize) -> Option<Call> {
-    if lane < lanes.len() {
-        lanes[lane].pop_front()
-    } else {
-        None
+// The place of the next call of a lane, from a place on.
+fn next_call(calls: &[Call], lane: usize, from: usize) -> Option<usize>
+    ensures { IfSome result (λ i. i < length calls.now) }
+{
+    for i in from..calls.len() {
+        if calls[i].lane.0 as usize == lane {
+            return Some(i);
+        }
     }
+    None
 }
 
+// For each lane in the order its next call is made. The places of the lanes' next calls move on.
 fn in_order(
-    stacks: &mut Vec<WalkedStack>,
-    lanes: &mut Vec<VecDeque<Call>>,
+    alloc: Global,
+    stacks: &mut [WalkedStack],
+    calls: &[Call],
     order: &[u8],
+    next: &mut [usize],
 ) -> Result<(), OutOfMemory> {
-    for lane in order {
-        if let Some(next) = next_of(lanes, *lane as usize) {
-            one_call(stacks, *lane as usize, next)?;
+    for number in order {
+        let lane = *number as usize;
+        if lane < next.len() {
+            if let Some(i) = next_call(calls, lane, next[lane]) {
+                next[lane] = i + 1;
+                one_call(alloc, stacks, &calls[i])?;
+            }
         }
     }
     Ok(())
 }
 
 fn rest_of_lane(
-    stacks: &mut Vec<WalkedStack>,
+    alloc: Global,
+    stacks: &mut [WalkedStack],
+    calls: &[Call],
     lane: usize,
-    calls: VecDeque<Call>,
+    from: usize,
 ) -> Result<(), OutOfMemory> {
-    for next in calls {
-        one_call(stacks, lane, next)?;
-    }
-    Ok(())
-}
-
-fn rest(stacks: &mut Vec<WalkedStack>, lanes: Vec<VecDeque<Call>>) -> Result<(), OutOfMemory> {
-    let mut lane = 0usize;
-    for calls in lanes {
-        rest_of_lane(stacks, lane, calls)?;
-        lane = lane.saturating_add(1);
-    }
-    Ok(())
-}
-
-fn end_all(stacks: &mut Vec<WalkedStack>) -> Result<(), OutOfMemory> {
-    let many = stacks.len();
-    for i in 0..many {
-        let at = many - 1 - i;
-        if at < stacks.len() {
-            end(&mut stacks[at])?;
+    for i in from..calls.len() {
+        if calls[i].lane.0 as usize == lane {
+            one_call(alloc, stacks, &calls[i])?;
         }
     }
     Ok(())
 }
 
-/// Walks a script, and gives its stacks with their journals, the lowest first. For each lane in the order
-/// the lane's next call is made, a lane without calls left being skipped; then the rest, lane by lane.
+fn rest(
+    alloc: Global,
+    stacks: &mut [WalkedStack],
+    calls: &[Call],
+    next: &[usize],
+) -> Result<(), OutOfMemory> {
+    for (lane, from) in next.iter().enumerate() {
+        rest_of_lane(alloc, stacks, calls, lane, *from)?;
+    }
+    Ok(())
+}
+
+fn make_calls(
+    alloc: Global,
+    stacks: &mut [WalkedStack],
+    script: &Script,
+    order: &[u8],
+) -> Result<(), OutOfMemory> {
+    let calls = script.calls.items();
+    let mut next = vec![in alloc; 0usize; script.lanes as usize]?;
+    in_order(alloc, stacks, calls, order, next.as_mut_slice())?;
+    rest(alloc, stacks, calls, next.as_slice())
+}
+
+fn end_all(stacks: &mut [WalkedStack]) -> Result<(), OutOfMemory> {
+    let many = stacks.len();
+    for i in 0..many {
+        end(&mut stacks[many - 1 - i])?;
+    }
+    Ok(())
+}
+
+/// Walks a script, and gives its stacks with their journals, the lowest first. The stacks are opened from
+/// the lowest on. For each lane in the order the lane's next call is made, a lane without calls left being
+/// skipped; then the rest, lane by lane. The stacks are ended from the highest on.
 pub fn walk(
     alloc: Global,
-    script: PlainScript,
+    script: &Script,
     order: &[u8],
 ) -> Result<Vec<WalkedStack>, OutOfMemory> {
-    let PlainScript { stacks, lanes } = script;
-    let mut walked = open_all(alloc, stacks)?;
-    let mut lanes = lanes;
-    in_order(&mut walked, &mut lanes, order)?;
-    rest(&mut walked, lanes)?;
-    end_all(&mut walked)?;
+    let mut walked = open_all(alloc, script.stacks.items())?;
+    make_calls(alloc, walked.as_mut_slice(), script, order)?;
+    end_all(walked.as_mut_slice())?;
     Ok(walked)
 }
