@@ -14,14 +14,12 @@ use Rattle.journal_types.specs.declared.Row.TheVariants as row
 use Rattle.journal_types.specs.declared.Turn.{Turn}
 use Rattle.stack_rules.specs.Tests.{same_module}
 use Rattle.promise_rules.specs.Rows.{first_row, issue_of}
+use Rattle.promise_rules.specs.Completions.{gives}
+use Rattle.promise_rules.specs.declared.Call.{Call}
 use Rattle.promise_rules.specs.declared.Called.{Called}
 use Rattle.promise_rules.specs.declared.Called.TheVariants as called
 
 -- a call of a module's driver
-pub record Call : Type 0 where
-  pub module_id : ModuleId
-  pub what : Called
-
 abbrev pub call : ModuleId → Called → List Call
 call m what = record { module_id = m; what = what } ∷ []
 
@@ -45,10 +43,6 @@ abbrev pub home_call : ModuleId → Direction → List Call
 home_call owner direction.Down = call owner called.SendComplete
 home_call owner direction.Up = call owner called.Returned
 home_call owner direction.Lent = []
-
-abbrev pub gives : ℕ → Row → Bool
-gives n (row.OidGive request m) = request.0 == n
-gives n _ = false
 
 abbrev pub asks : ℕ → Row → Bool
 asks n (row.OidIssue request parent binding kind code value) = request.0 == n

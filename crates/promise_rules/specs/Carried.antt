@@ -1,6 +1,7 @@
 -- One configuration: what is on a wire or delivered is its original, passed through the filters of the
 -- configuration in which the original was issued.
 use Rattle.std.specs.Prelude.{ℕ, ◌==◌, Bool, true, false, List, [], ◌∷◌, Option, Some, None, option_and_then, if◌then◌else◌}
+use Rattle.std.specs.List.{list_any}
 use Rattle.program_types.specs.Apply.{applied}
 use Rattle.journal_types.specs.declared.Setup.{Setup}
 use Rattle.journal_types.specs.declared.OutWay.TheVariants as out
@@ -14,7 +15,7 @@ use Rattle.journal_types.specs.declared.StackHead.{StackHead}
 use Rattle.journal_types.specs.declared.Turn.{Turn}
 use Rattle.stack_rules.specs.Outcome.{max_frame}
 use Rattle.stack_rules.specs.Tests.{same_frames}
-use Rattle.promise_rules.specs.Rows.{all_rows, issue_of, is_issue, frames_in, config_in}
+use Rattle.promise_rules.specs.Rows.{all_rows, issue_of, is_issue, frames_in}
 use Rattle.promise_rules.specs.Families.{root_of}
 
 -- the set-up of a filter: that of the event whose reply names it
@@ -49,29 +50,32 @@ abbrev pub carried_up : ℕ → List Turn → List ℕ → List (List ℕ) → O
 carried_up max turns [] frames = Some frames
 carried_up max turns (f ∷ fs) frames = option_and_then (received_by max (setup_of turns f)) (carried_up max turns fs frames)
 
--- the filters of the configuration in which a list was issued: of the last one before its issue
-abbrev pub filters_at : List ℕ → Row → List ℕ
-filters_at order (row.Config config filters) = filters
-filters_at order _ = order
+-- the row that sets up the configuration in which a list is issued: the last one before its issue
+abbrev pub config_at : Option Row → Row → Option Row
+config_at before (row.Config config filters) = Some (row.Config config filters)
+config_at before _ = before
 
-abbrev pub order_in_rows : ℕ → List ℕ → List Row → Option (List ℕ)
-order_in_rows n order [] = None
-order_in_rows n order (r ∷ rows) = if is_issue n r then Some order else order_in_rows n (filters_at order r) rows
+-- before the row that issues the list, else after all the rows
+abbrev pub config_in_rows : ℕ → Option Row → List Row → Option Row
+config_in_rows n before [] = before
+config_in_rows n before (r ∷ rows) = if is_issue n r then before else config_in_rows n (config_at before r) rows
 
-abbrev pub order_after : List ℕ → List Row → List ℕ
-order_after order [] = order
-order_after order (r ∷ rows) = order_after (filters_at order r) rows
+abbrev pub config_from : ℕ → Option Row → List Turn → Option Row
+config_from n before [] = before
+config_from n before (t ∷ ts) =
+    if list_any (is_issue n) t.rows then config_in_rows n before t.rows else config_from n (config_in_rows n before t.rows) ts
 
-abbrev pub order_or : Option (List ℕ) → List ℕ → List ℕ
-order_or None later = later
-order_or (Some order) later = order
+abbrev pub config_of : List Turn → ℕ → Option Row
+config_of turns n = config_from n None turns
 
-abbrev pub order_from : ℕ → List ℕ → List Turn → List ℕ
-order_from n order [] = order
-order_from n order (t ∷ ts) = order_or (order_in_rows n order t.rows) (order_from n (order_after order t.rows) ts)
+-- its number, and its filters from top to bottom
+abbrev pub number_in : Option Row → ℕ
+number_in (Some (row.Config config filters)) = config.0
+number_in _ = 0
 
-abbrev pub order_of : List Turn → ℕ → List ℕ
-order_of turns n = order_from n [] turns
+abbrev pub filters_in : Option Row → List ℕ
+filters_in (Some (row.Config config filters)) = filters
+filters_in _ = []
 
 abbrev pub are_frames : List (List ℕ) → Option (List (List ℕ)) → Bool
 are_frames frames None = false
@@ -80,20 +84,20 @@ are_frames frames (Some made) = same_frames made frames
 -- the frames of a list of this root, as they are down on the wire, and up at the bindings
 abbrev pub is_carried_down : StackHead → List Turn → ℕ → List (List ℕ) → Bool
 is_carried_down head turns r frames =
-    are_frames frames (carried_down (max_frame head) turns (order_of turns r) (frames_in (issue_of turns r)))
+    are_frames frames (carried_down (max_frame head) turns (filters_in (config_of turns r)) (frames_in (issue_of turns r)))
 
 abbrev pub is_carried_up : StackHead → List Turn → ℕ → List (List ℕ) → Bool
 is_carried_up head turns r frames =
-    are_frames frames (carried_up (max_frame head) turns (order_of turns r) (frames_in (issue_of turns r)))
+    are_frames frames (carried_up (max_frame head) turns (filters_in (config_of turns r)) (frames_in (issue_of turns r)))
 
 abbrev pub keeps_configuration : StackHead → List Turn → Row → Bool
 keeps_configuration head turns (row.Issue list owner config direction cancel origin frames) =
-    config.0 == config_in (issue_of turns (root_of turns list.0))
+    config.0 == number_in (config_of turns (root_of turns list.0))
 keeps_configuration head turns (row.Wire list frames) = is_carried_down head turns (root_of turns list.0) frames
 keeps_configuration head turns (row.CrossOut message (out.Down list) frames) = is_carried_down head turns (root_of turns list.0) frames
 keeps_configuration head turns (row.Deliver list b how frames) = is_carried_up head turns (root_of turns list.0) frames
 keeps_configuration head turns _ = true
 
--- each list is issued in its root's configuration, and what a row shows is the root's frames as carried
+-- each list is issued in the configuration in which its root is, and what a row shows is the root's frames as carried
 abbrev pub has_one_configuration : StackHead → List Turn → Bool
 has_one_configuration head turns = all_rows (keeps_configuration head turns) turns

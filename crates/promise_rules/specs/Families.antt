@@ -1,6 +1,6 @@
 -- Families: a clone or a copy descends from its original, and all lists with one root are a family (WDK,
 -- "Derived NET_BUFFER_LIST structures").
-use Rattle.std.specs.Prelude.{ℕ, ◌==◌, Bool, true, false, List, [], ◌∷◌, Option, Some, None, if◌then◌else◌}
+use Rattle.std.specs.Prelude.{ℕ, ◌==◌, ◌||◌, not, Bool, true, false, List, [], ◌∷◌, Option, Some, None, if◌then◌else◌}
 use Rattle.ndis_base.specs.declared.Origin.TheVariants as origin
 use Rattle.journal_types.specs.declared.Row.{Row}
 use Rattle.journal_types.specs.declared.Row.TheVariants as row
@@ -28,10 +28,13 @@ abbrev pub issues_in : List Turn → ℕ → Row → Bool
 issues_in turns r (row.Issue list owner config direction cancel origin frames) = root_of turns list.0 == r
 issues_in turns r _ = false
 
--- a list of the family that the row issues is home
+-- the list is of another family, or home
+abbrev pub is_over_for : List Turn → ℕ → ℕ → Bool
+is_over_for turns r n = not (root_of turns n == r) || is_home_again turns n
+
 abbrev pub is_over_at : List Turn → ℕ → Row → Bool
 is_over_at turns r (row.Issue list owner config direction cancel origin frames) =
-    if root_of turns list.0 == r then is_home_again turns list.0 else true
+    is_over_for turns r list.0
 is_over_at turns r _ = true
 
 -- no list of the family is live

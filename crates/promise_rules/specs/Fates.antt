@@ -84,11 +84,11 @@ settles n (row.Keep list (Binding b)) = list.0 == n
 settles n (row.Issue list owner config direction.Lent cancel origin frames) = list.0 == n
 settles n _ = false
 
--- the bindings that take a list in the turn that settles it
-abbrev pub takers_in : Net → List Turn → ℕ → List (List ℕ) → List ℕ
-takers_in net [] n frames = []
+-- the bindings that take a list in the turn that settles it, where there is one
+abbrev pub takers_in : Net → List Turn → ℕ → List (List ℕ) → Option (List ℕ)
+takers_in net [] n frames = None
 takers_in net (t ∷ ts) n frames =
-    if list_any (settles n) t.rows then takers net frames else takers_in (after_turn net t) ts n frames
+    if list_any (settles n) t.rows then Some (takers net frames) else takers_in (after_turn net t) ts n frames
 
 abbrev pub delivered_at : ℕ → Row → List (ℕ × How)
 delivered_at n (row.Deliver list b how frames) = if list.0 == n then (b, how) ∷ [] else []
@@ -113,13 +113,17 @@ are_deliveries last (b ∷ []) (d ∷ []) = d.0 == b && same_how d.1 last
 are_deliveries last (b ∷ c ∷ bs) (d ∷ ds) = d.0 == b && (same_how d.1 how.Lent && are_deliveries last (c ∷ bs) ds)
 are_deliveries last _ _ = false
 
+abbrev pub reaches : How → Option (List ℕ) → List (ℕ × How) → Bool
+reaches last None deliveries = false
+reaches last (Some bindings) deliveries = are_deliveries last bindings deliveries
+
 abbrev pub how_of : Option Row → How
 how_of issue = if is_lent_issue issue then how.Lent else how.Own
 
 abbrev pub is_delivered_by : StackHead → List Turn → Option ℕ → Bool
 is_delivered_by head turns None = false
 is_delivered_by head turns (Some n) =
-    are_deliveries (how_of (issue_of turns n)) (takers_in (start head) turns n (frames_in (issue_of turns n))) (deliveries_of turns n)
+    reaches (how_of (issue_of turns n)) (takers_in (start head) turns n (frames_in (issue_of turns n))) (deliveries_of turns n)
 
 abbrev pub count_deliveries : List Turn → Option ℕ → ℕ
 count_deliveries turns None = 0

@@ -1,7 +1,8 @@
 -- Joined stacks: each message that enters a stack left the other one, once, with its frames; and a list that
 -- was taken down is done with what became of its message.
-use Rattle.std.specs.Prelude.{ℕ, ◌+◌, ◌==◌, ◌&&◌, ◌||◌, not, Bool, true, false, List, [], ◌∷◌, Option, Some, None, is_some, map, sum_by, count_by, slice_get, unwrap_or}
+use Rattle.std.specs.Prelude.{ℕ, ◌+◌, ◌==◌, ◌&&◌, ◌||◌, not, Bool, true, false, List, [], ◌∷◌, Option, Some, None, map, sum_by, count_by, slice_get, unwrap_or}
 use Rattle.std.specs.List.{list_all, list_any}
+use Rattle.ndis_base.specs.declared.Origin.TheVariants as origin
 use Rattle.ndis_base.specs.declared.ListStatus.{ListStatus}
 use Rattle.ndis_base.specs.declared.ListStatus.TheVariants as status
 use Rattle.program_types.specs.Apply.{pushed}
@@ -18,7 +19,7 @@ use Rattle.journal_types.specs.declared.Row.{Row}
 use Rattle.journal_types.specs.declared.Row.TheVariants as row
 use Rattle.journal_types.specs.declared.Turn.{Turn}
 use Rattle.stack_rules.specs.Tests.{same_frames}
-use Rattle.promise_rules.specs.Rows.{first_row, same_status}
+use Rattle.promise_rules.specs.Rows.{same_status}
 
 abbrev pub same_way : Way → Way → Bool
 same_way crossing.Down crossing.Down = true
@@ -44,7 +45,7 @@ enters stack message way frames (row.CrossIn s m w shown) =
 enters stack message way frames _ = false
 
 abbrev pub issues_frames : List (List ℕ) → Row → Bool
-issues_frames frames (row.Issue list owner config direction cancel origin shown) = same_frames shown frames
+issues_frames frames (row.Issue list owner config direction cancel origin.Root shown) = same_frames shown frames
 issues_frames frames _ = false
 
 abbrev pub is_refused : Reply → Bool
@@ -56,7 +57,7 @@ is_put stack message way frames issued rows =
     count_by (enters stack message way frames) rows == 1 && list_any (issues_frames issued) rows
 
 abbrev pub left : List (List Turn) → ℕ → ℕ → Way → List (List ℕ) → Bool
-left journals stack message way frames = is_some (first_row (leaves message way frames) (journal_of journals stack))
+left journals stack message way frames = list_any (λ t. list_any (leaves message way frames) t.rows) (journal_of journals stack)
 
 -- the turn puts a message of this stack, number and way
 abbrev pub puts : ℕ → ℕ → Way → Event → Bool
@@ -91,7 +92,7 @@ ends_message message (event.CrossDone m status) = m.0 == message
 ends_message message _ = false
 
 -- the message left its stack with these frames and is put once; an accepted put has one crossing row, and
--- issues a list of the message's frames, with the tag on the way down
+-- issues a root of the message's frames, with the tag on the way down
 abbrev pub is_crossing : List (List Turn) → ℕ → ℕ → Way → List (List ℕ) → List (List ℕ) → Reply → List Row → Bool
 is_crossing journals stack message way frames issued told rows =
     left journals stack message way frames

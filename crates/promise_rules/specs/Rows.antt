@@ -42,14 +42,10 @@ home_of turns n = first_row (is_home n) turns
 abbrev pub is_home_again : List Turn → ℕ → Bool
 is_home_again turns n = is_some (home_of turns n)
 
--- the frames, the configuration and the status that a row shows
+-- the frames and the status that a row shows
 abbrev pub frames_in : Option Row → List (List ℕ)
 frames_in (Some (row.Issue list owner config direction cancel origin frames)) = frames
 frames_in _ = []
-
-abbrev pub config_in : Option Row → ℕ
-config_in (Some (row.Issue list owner config direction cancel origin frames)) = config.0
-config_in _ = 0
 
 abbrev pub status_in : Option Row → Option ListStatus
 status_in (Some (row.Home list owner status)) = Some status

@@ -4,6 +4,8 @@
 //! where a driver stands among those that were handed in.
 #![tactic(auto)]
 
+use ndis_base::ModuleId;
+
 /// The place of a driver: which of the three lists of handed-in drivers it stands in, and its number
 /// there, from 0.
 #[derive(Clone, Copy, Debug, PartialEq, Eq)]
@@ -24,4 +26,11 @@ pub enum Called {
     Oid,
     OidComplete,
     Status,
+}
+
+/// A call of a module's driver.
+#[derive(Clone, Copy, Debug, PartialEq, Eq)]
+pub struct Call {
+    pub module_id: ModuleId,
+    pub what: Called,
 }
