@@ -15,10 +15,7 @@ fn call(alloc: Global, m: ModuleId, what: Called) -> Result<Vec<Call>, OutOfMemo
     ensures { IfOk result (λ calls. calls.items ≡ call m what) }
 {
     let mut calls = Vec::new(alloc);
-    calls.push(Call {
-        module_id: m,
-        what,
-    })?;
+    calls.push(Call { module_id: m, what })?;
     Ok(calls)
 }
 
@@ -72,11 +69,7 @@ fn direction_in(issue: Option<&Row>) -> Direction
 }
 
 /// A list that is home is its owner's again.
-fn home_call(
-    alloc: Global,
-    owner: ModuleId,
-    direction: Direction,
-) -> Result<Vec<Call>, OutOfMemory>
+fn home_call(alloc: Global, owner: ModuleId, direction: Direction) -> Result<Vec<Call>, OutOfMemory>
     ensures { IfOk result (λ calls. calls.items ≡ home_call owner direction) }
 {
     match direction {
@@ -138,7 +131,9 @@ pub fn calls_at(alloc: Global, turns: &[Turn], row: &Row) -> Result<Vec<Call>, O
 {
     match row {
         Row::Give {
-            module, handler, ..
+            module,
+            handler,
+            ..
         } => call(alloc, *module, called_by(*handler)),
         Row::Home { list, owner, .. } => {
             home_call(alloc, *owner, direction_in(issue_of(turns, list.0)))

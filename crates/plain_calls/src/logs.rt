@@ -40,7 +40,9 @@ fn logged_by_binding(alloc: Global, b: u32, row: &Row) -> Result<Vec<Frames>, Ou
 {
     match row {
         Row::Deliver {
-            binding, frames, ..
+            binding,
+            frames,
+            ..
         } => {
             if *binding == b {
                 one_entry(alloc, frames)
@@ -78,10 +80,7 @@ fn log_in_rows(alloc: Global, m: ModuleId, rows: &[Row]) -> Result<Vec<Frames>, 
 {
     match rows {
         [] => Ok(no_entry(alloc)),
-        [row, others @ ..] => log_and(
-            logged_at(alloc, m, row)?,
-            log_in_rows(alloc, m, others)?,
-        ),
+        [row, others @ ..] => log_and(logged_at(alloc, m, row)?, log_in_rows(alloc, m, others)?),
     }
 }
 

@@ -82,12 +82,7 @@ fn served_from(
 
 /// How often a journal calls a module's driver for this. A count past the greatest number counts as want of
 /// memory.
-pub fn served(
-    alloc: Global,
-    turns: &[Turn],
-    m: ModuleId,
-    what: Called,
-) -> Result<u64, OutOfMemory>
+pub fn served(alloc: Global, turns: &[Turn], m: ModuleId, what: Called) -> Result<u64, OutOfMemory>
     ensures { IfOk result (λ n. n ≡ served turns.now m what) }
 {
     served_from(alloc, turns, m, what, turns)

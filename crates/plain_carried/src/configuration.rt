@@ -40,7 +40,13 @@ fn is_carried_down(
     ensures { IfOk result (λ holds. holds ≡ is_carried_down head.now turns.now root frames.now) }
 {
     let first = frames_in(alloc, issue_of(turns, root))?;
-    let made = carried_down(alloc, max_frame(head), turns, filters_in(config_of(turns, root)), first)?;
+    let made = carried_down(
+        alloc,
+        max_frame(head),
+        turns,
+        filters_in(config_of(turns, root)),
+        first,
+    )?;
     Ok(are_frames(frames, made))
 }
 
@@ -54,7 +60,13 @@ fn is_carried_up(
     ensures { IfOk result (λ holds. holds ≡ is_carried_up head.now turns.now root frames.now) }
 {
     let first = frames_in(alloc, issue_of(turns, root))?;
-    let made = carried_up(alloc, max_frame(head), turns, filters_in(config_of(turns, root)), first)?;
+    let made = carried_up(
+        alloc,
+        max_frame(head),
+        turns,
+        filters_in(config_of(turns, root)),
+        first,
+    )?;
     Ok(are_frames(frames, made))
 }
 

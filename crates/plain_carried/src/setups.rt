@@ -9,23 +9,11 @@ fn setup_told<'a>(f: u64, event: &'a Event, reply: &Reply) -> Option<&'a Setup>
 {
     match event {
         Event::Insert { setup, .. } => match reply {
-            Reply::Inserted { filter } => {
-                if *filter == f {
-                    Some(setup)
-                } else {
-                    None
-                }
-            }
+            Reply::Inserted { filter } => { if *filter == f { Some(setup) } else { None } }
             _ => None,
         },
         Event::Replace { setup, .. } => match reply {
-            Reply::Replaced { filter } => {
-                if *filter == f {
-                    Some(setup)
-                } else {
-                    None
-                }
-            }
+            Reply::Replaced { filter } => { if *filter == f { Some(setup) } else { None } }
             _ => None,
         },
         _ => None,

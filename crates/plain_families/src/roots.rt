@@ -11,20 +11,8 @@ fn origin_at(row: &Row, n: u64) -> u64
     match row {
         Row::Issue { list, origin, .. } => match *origin {
             Origin::Root => n,
-            Origin::Clone(o) => {
-                if list.0 == n {
-                    o.0
-                } else {
-                    n
-                }
-            }
-            Origin::Copy(o) => {
-                if list.0 == n {
-                    o.0
-                } else {
-                    n
-                }
-            }
+            Origin::Clone(o) => { if list.0 == n { o.0 } else { n } }
+            Origin::Copy(o) => { if list.0 == n { o.0 } else { n } }
         },
         _ => n,
     }

@@ -100,7 +100,11 @@ fn takes_family(turns: &[Turn], root: u64, message: u64, row: &Row) -> bool
     ensures { result ≡ takes_family turns.now root message row.now }
 {
     match row {
-        Row::CrossOut { message: m, way, .. } => match *way {
+        Row::CrossOut {
+            message: m,
+            way,
+            ..
+        } => match *way {
             OutWay::Down(list) => m.0 == message && root_of(turns, list.0) == root,
             OutWay::Up => false,
         },

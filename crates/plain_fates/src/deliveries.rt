@@ -1,6 +1,6 @@
 //! To whom a list is delivered, and how.
 ghost use Rattle.std.specs.Prelude.{◌≡◌, IfOk, ◌++◌, flat_map, option_copied};
-ghost use Rattle.promise_rules.specs.Fates.{delivered_at, deliveries_of, is_lent_issue, same_how, are_deliveries, how_of};
+ghost use Rattle.promise_rules.specs.Fates.{delivered_at, deliveries_of, is_lent_issue, same_how, how_before, are_deliveries, how_of};
 
 use journal_types::{How, Row, Turn};
 use ndis_base::{Direction, OutOfMemory};
@@ -91,20 +91,26 @@ fn same_how(a: How, b: How) -> bool
     }
 }
 
+fn how_before(last: How, others: &[u32]) -> How
+    ensures { result ≡ how_before last others.now }
+{
+    match others {
+        [] => last,
+        [_, ..] => How::Lent,
+    }
+}
+
 /// Whether each of the bindings gets the list once, lent but for the last one.
 pub fn are_deliveries(last: How, bindings: &[u32], deliveries: &[(u32, How)]) -> bool
     ensures { result ≡ are_deliveries last bindings.now deliveries.now }
 {
     match bindings {
         [] => deliveries.is_empty(),
-        [b] => match deliveries {
-            [d] => d.0 == *b && same_how(d.1, last),
-            _ => false,
-        },
         [b, others @ ..] => match deliveries {
             [] => false,
             [d, rest @ ..] => d.0 == *b
-                && (same_how(d.1, How::Lent) && are_deliveries(last, others, rest)),
+                && (same_how(d.1, how_before(last, others))
+                    && are_deliveries(last, others, rest)),
         },
     }
 }

@@ -154,11 +154,11 @@ fn next_stack(stack: u8) -> Result<u8, OutOfMemory>
     }
 }
 
-fn are_linked_from(
+fn are_linked_from<'a>(
     alloc: Global,
-    journals: &[&[Turn]],
+    journals: &[&'a [Turn]],
     stack: u8,
-    others: &[&[Turn]],
+    others: &[&'a [Turn]],
 ) -> Result<bool, OutOfMemory>
     ensures { IfOk result (λ hold. hold ≡ are_linked_from (map (λ j. j.now) journals.now) stack (map (λ j. j.now) others.now)) }
 {

@@ -106,11 +106,15 @@ same_how how.Own how.Own = true
 same_how how.Lent how.Lent = true
 same_how _ _ = false
 
+-- a list is lent to a binding that others get it after
+abbrev pub how_before : How → List ℕ → How
+how_before last [] = last
+how_before last (b ∷ bs) = how.Lent
+
 -- each taker gets the list once, lent but for the last one, to which it is given as told
 abbrev pub are_deliveries : How → List ℕ → List (ℕ × How) → Bool
 are_deliveries last [] [] = true
-are_deliveries last (b ∷ []) (d ∷ []) = d.0 == b && same_how d.1 last
-are_deliveries last (b ∷ c ∷ bs) (d ∷ ds) = d.0 == b && (same_how d.1 how.Lent && are_deliveries last (c ∷ bs) ds)
+are_deliveries last (b ∷ bs) (d ∷ ds) = d.0 == b && (same_how d.1 (how_before last bs) && are_deliveries last bs ds)
 are_deliveries last _ _ = false
 
 abbrev pub reaches : How → Option (List ℕ) → List (ℕ × How) → Bool

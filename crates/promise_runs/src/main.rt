@@ -114,8 +114,10 @@ fn modules_of(
 ) -> Result<Vec<ModuleId>, OutOfMemory> {
     let mut modules = Vec::new(alloc);
     modules.push(ModuleId::Miniport)?;
-    for (b, _) in head.bindings.items().iter().enumerate() {
-        modules.push(ModuleId::Binding(b as u32))?;
+    let mut binding = 0u32;
+    for _ in head.bindings.items() {
+        modules.push(ModuleId::Binding(binding))?;
+        binding = binding.saturating_add(1);
     }
     for turn in turns {
         match turn.reply {
@@ -193,7 +195,9 @@ fn tell(rt: &impl Print, name: &str, kept: Kept, counts: Counts) -> io::Result<(
     let configuration = word(kept.configuration);
     let requests = word(kept.requests);
     let links = word(kept.links);
-    print!(rt; "{name} fates {fates} configuration {configuration} requests {requests} links {links}")?;
+    print!(rt;
+        "{name} fates {fates} configuration {configuration} requests {requests} links {links}"
+    )?;
     let Counts {
         send,
         send_complete,
@@ -209,13 +213,7 @@ fn tell(rt: &impl Print, name: &str, kept: Kept, counts: Counts) -> io::Result<(
     println!(rt; " {oid} {oid_complete} {status} logged {logged}")
 }
 
-fn judge(
-    rt: &impl Print,
-    alloc: Global,
-    name: &str,
-    script: &str,
-    order: &str,
-) -> io::Result<()> {
+fn judge(rt: &impl Print, alloc: Global, name: &str, script: &str, order: &str) -> io::Result<()> {
     match judged(alloc, script, order) {
         Err(fault) => println!(rt; "{name} {fault:?}"),
         Ok((kept, counts)) => tell(rt, name, kept, counts),
