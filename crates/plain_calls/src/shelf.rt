@@ -1,9 +1,8 @@
 //! Which of the handed-in drivers stands for each filter.
-ghost use Rattle.std.specs.Prelude.{◌≡◌, [], IfOk, OnOk, find};
-ghost use Rattle.std.specs.List.{range_with_len};
+ghost use Rattle.std.specs.Prelude.{◌≡◌, ◌+◌, IfOk, OnOk, find};
 ghost use Rattle.journal_types.specs.declared.PhaseOf.TheVariants as of;
 ghost use Rattle.journal_types.specs.declared.Row.TheVariants as row;
-ghost use Rattle.promise_rules.specs.Drivers.{with_place, is_of_kind, without_place, taken_from, taken_for, shelf_told, driver_of, shelf_at, shelf_in_rows, shelf_in_turns, shelf_of};
+ghost use Rattle.promise_rules.specs.Drivers.{with_place, is_of_kind, without_place, taken_from, taken_for, shelf_told, driver_of, shelf_at, shelf_in_rows, shelf_in_turns, places_from, shelf_of};
 
 use crate::kinds::same_filter_kind;
 use journal_types::{Event, PhaseOf, Reply, Row, Turn};
@@ -179,45 +178,59 @@ impl PlainShelf {
             _ => Ok(()),
         }
     }
+}
 
-    fn note_rows(&mut self, rows: &[Row]) -> Result<(), OutOfMemory>
-        ensures { OnOk result (self.new ≡ shelf_in_rows rows.now self.old) }
-    {
-        match rows {
-            [] => Ok(()),
-            [row, others @ ..] => {
-                self.note(row)?;
-                self.note_rows(others)
-            }
-        }
-    }
-
-    fn note_turns(&mut self, kinds: &[FilterKind], turns: &[Turn]) -> Result<(), OutOfMemory>
-        ensures { OnOk result (self.new ≡ shelf_in_turns kinds.now turns.now self.old) }
-    {
-        match turns {
-            [] => Ok(()),
-            [turn, others @ ..] => {
-                self.tell(kinds, &turn.event, &turn.reply)?;
-                self.note_rows(turn.rows.items())?;
-                self.note_turns(kinds, others)
-            }
+fn note_rows(shelf: &mut PlainShelf, rows: &[Row]) -> Result<(), OutOfMemory>
+    ensures { OnOk result (shelf.new ≡ shelf_in_rows rows.now shelf.old) }
+{
+    match rows {
+        [] => Ok(()),
+        [row, others @ ..] => {
+            shelf.note(row)?;
+            note_rows(shelf, others)
         }
     }
 }
 
-fn first_shelf(alloc: Global, many: usize) -> Result<PlainShelf, OutOfMemory>
-    ensures { IfOk result (λ shelf. shelf ≡ record { places = range_with_len 0 many; drivers = [] }) }
+fn note_turns(
+    shelf: &mut PlainShelf,
+    kinds: &[FilterKind],
+    turns: &[Turn],
+) -> Result<(), OutOfMemory>
+    ensures { OnOk result (shelf.new ≡ shelf_in_turns kinds.now turns.now shelf.old) }
 {
-    let mut places = Vec::new(alloc);
-    for place in 0..many {
-        places.push(place)?;
+    match turns {
+        [] => Ok(()),
+        [turn, others @ ..] => {
+            shelf.tell(kinds, &turn.event, &turn.reply)?;
+            note_rows(shelf, turn.rows.items())?;
+            note_turns(shelf, kinds, others)
+        }
     }
-    Ok(PlainShelf {
-        alloc,
-        places,
-        drivers: Vec::new(alloc),
-    })
+}
+
+/// The next place. One past the greatest counts as want of memory.
+fn next_place(place: usize) -> Result<usize, OutOfMemory>
+    ensures { IfOk result (λ next. next ≡ place + 1) }
+{
+    if place < usize::MAX {
+        Ok(place + 1)
+    } else {
+        Err(OutOfMemory)
+    }
+}
+
+fn places_from(alloc: Global, place: usize, kinds: &[FilterKind]) -> Result<Vec<usize>, OutOfMemory>
+    ensures { IfOk result (λ places. places.items ≡ places_from place kinds.now) }
+{
+    match kinds {
+        [] => Ok(Vec::new(alloc)),
+        [_, others @ ..] => {
+            let mut places = places_from(alloc, next_place(place)?, others)?;
+            places.insert(0, place)?;
+            Ok(places)
+        }
+    }
 }
 
 /// The shelf after a journal. Before its first turn all filters' drivers, of which these are the kinds, stand on
@@ -229,7 +242,11 @@ pub fn shelf_of(
 ) -> Result<PlainShelf, OutOfMemory>
     ensures { IfOk result (λ shelf. shelf ≡ shelf_of kinds.now turns.now) }
 {
-    let mut shelf = first_shelf(alloc, kinds.len())?;
-    shelf.note_turns(kinds, turns)?;
+    let mut shelf = PlainShelf {
+        alloc,
+        places: places_from(alloc, 0, kinds)?,
+        drivers: Vec::new(alloc),
+    };
+    note_turns(&mut shelf, kinds, turns)?;
     Ok(shelf)
 }

@@ -1,8 +1,8 @@
 //! Requests and their clones.
-ghost use Rattle.std.specs.Prelude.{◌≡◌, ◌==◌, ◌&&◌, IfOk, count_by, find, option_copied};
+ghost use Rattle.std.specs.Prelude.{◌≡◌, ◌==◌, ◌&&◌, IfOk, count_by, find, is_some, option_copied};
 ghost use Rattle.std.specs.List.{list_all};
 ghost use Rattle.promise_rules.specs.Rows.{count_rows};
-ghost use Rattle.promise_rules.specs.Completions.{is_done, is_clone, done_of, clone_in, same_oid_status, same_answer_as, same_answer, is_answered, completes_once, is_completed, are_completed};
+ghost use Rattle.promise_rules.specs.Completions.{is_done, is_clone, gives, done_of, clone_in, same_oid_status, same_answer_as, same_answer, is_answered, completes_once, is_completed, are_completed};
 
 use journal_types::{Row, Turn};
 use ndis_base::{ModuleId, OidStatus, OidValue, OutOfMemory};
@@ -90,6 +90,15 @@ fn is_answered_by_clone(turns: &[Turn], rows: &[Row], n: u64) -> Result<bool, Ou
     Ok(here == 1 && (clones == 1 && same_answer(turns, done_of(turns, n), clone)))
 }
 
+/// Whether a request that is done is given and done once.
+fn is_done_once(turns: &[Turn], n: u64) -> Result<bool, OutOfMemory>
+    ensures { IfOk result (λ holds. holds ≡ (count_rows (is_done n) turns.now == 1 && count_rows (gives n) turns.now == 1)) }
+{
+    let done = count_rows(turns, Wanted::OidDone(n))?;
+    let given = count_rows(turns, Wanted::OidGive(n))?;
+    Ok(done == 1 && given == 1)
+}
+
 fn is_answered(turns: &[Turn], rows: &[Row], row: &Row) -> Result<bool, OutOfMemory>
     ensures { IfOk result (λ holds. holds ≡ is_answered turns.now rows.now row.now) }
 {
@@ -99,11 +108,7 @@ fn is_answered(turns: &[Turn], rows: &[Row], row: &Row) -> Result<bool, OutOfMem
             ModuleId::Filter(_) => is_answered_by_clone(turns, rows, request.0),
             ModuleId::Binding(_) => Ok(false),
         },
-        Row::OidDone { request, .. } => {
-            let done = count_rows(turns, Wanted::OidDone(request.0))?;
-            let given = count_rows(turns, Wanted::OidGive(request.0))?;
-            Ok(done == 1 && given == 1)
-        }
+        Row::OidDone { request, .. } => is_done_once(turns, request.0),
         _ => Ok(true),
     }
 }
@@ -146,14 +151,20 @@ pub fn completes_once(turns: &[Turn]) -> Result<bool, OutOfMemory>
     complete_once_in(turns, turns)
 }
 
+fn has_done_row(turns: &[Turn], n: u64) -> bool
+    ensures { result ≡ is_some (done_of turns.now n) }
+{
+    match done_of(turns, n) {
+        None => false,
+        Some(_) => true,
+    }
+}
+
 fn is_completed(turns: &[Turn], row: &Row) -> bool
     ensures { result ≡ is_completed turns.now row.now }
 {
     match row {
-        Row::OidIssue { request, .. } => match done_of(turns, request.0) {
-            None => false,
-            Some(_) => true,
-        },
+        Row::OidIssue { request, .. } => has_done_row(turns, request.0),
         _ => true,
     }
 }

@@ -1,6 +1,8 @@
 //! Joined stacks.
 ghost use Rattle.std.specs.Prelude.{◌≡◌, ◌+◌, ◌&&◌, IfOk, map};
 ghost use Rattle.std.specs.List.{list_all};
+ghost use Rattle.program_types.specs.Apply.{pushed};
+ghost use Rattle.journal_types.specs.declared.Way.TheVariants as crossing;
 ghost use Rattle.promise_rules.specs.Links.{is_crossing, is_linked_event, is_ended, is_linked_journal, are_linked_from, are_linked};
 
 use crate::messages::{count_ends, count_puts, is_put, is_refused, left, tagged, was_put_as};
@@ -26,6 +28,32 @@ fn is_crossing(
     Ok(left(journals, stack, message, way, frames) && (puts == 1 && is_rightly_put))
 }
 
+/// Whether a message on its way down is put rightly: the tag of the VLAN is pushed.
+fn is_crossing_down(
+    alloc: Global,
+    journals: &[&[Turn]],
+    stack: u8,
+    message: u64,
+    vlan: u16,
+    frames: &Frames,
+    reply: &Reply,
+    rows: &[Row],
+) -> Result<bool, OutOfMemory>
+    ensures { IfOk result (λ holds. holds ≡ is_crossing (map (λ j. j.now) journals.now) stack message crossing.Down frames.now (map (pushed vlan) frames.now) reply.now rows.now) }
+{
+    let issued = tagged(alloc, vlan, frames)?;
+    is_crossing(
+        journals,
+        stack,
+        message,
+        Way::Down,
+        frames,
+        &issued,
+        reply,
+        rows,
+    )
+}
+
 fn is_linked_event(
     alloc: Global,
     journals: &[&[Turn]],
@@ -42,19 +70,9 @@ fn is_linked_event(
             message,
             vlan,
             frames,
-        } => {
-            let issued = tagged(alloc, *vlan, frames)?;
-            is_crossing(
-                journals,
-                *from,
-                message.0,
-                Way::Down,
-                frames,
-                &issued,
-                reply,
-                rows,
-            )
-        }
+        } => is_crossing_down(
+            alloc, journals, *from, message.0, *vlan, frames, reply, rows,
+        ),
         Event::CrossPutUp {
             stack: from,
             message,

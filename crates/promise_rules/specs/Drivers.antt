@@ -1,6 +1,6 @@
 -- Which of the handed-in drivers stands for each module, and how often and with what a journal calls it.
-use Rattle.std.specs.Prelude.{ℕ, ◌+◌, ◌==◌, ◌&&◌, not, Bool, true, false, List, [], ◌∷◌, ◌++◌, length, slice_get, Option, Some, None, option_map, unwrap_or, find, filter, if◌then◌else◌}
-use Rattle.std.specs.List.{list_any, range_with_len}
+use Rattle.std.specs.Prelude.{ℕ, ◌+◌, ◌==◌, ◌&&◌, not, Bool, true, false, List, [], ◌∷◌, ◌++◌, slice_get, Option, Some, None, option_map, unwrap_or, find, filter, if◌then◌else◌}
+use Rattle.std.specs.List.{list_any}
 use Rattle.ndis_base.specs.declared.ModuleId.TheVariants.{Filter}
 use Rattle.ndis_base.specs.declared.ModuleState.TheVariants as state
 use Rattle.ndis_base.specs.declared.MiniportKind.{MiniportKind}
@@ -103,6 +103,10 @@ abbrev pub shelf_in_turns : List FilterKind → List Turn → Shelf → Shelf
 shelf_in_turns kinds [] shelf = shelf
 shelf_in_turns kinds (t ∷ ts) shelf = shelf_in_turns kinds ts (shelf_in_rows t.rows (shelf_told kinds t.event t.reply shelf))
 
+abbrev pub places_from : ℕ → List FilterKind → List ℕ
+places_from place [] = []
+places_from place (k ∷ ks) = place ∷ places_from (place + 1) ks
+
 -- before the first turn all filters' drivers stand on the shelf, in the order in which they were handed in
 abbrev pub shelf_of : List FilterKind → List Turn → Shelf
-shelf_of kinds turns = shelf_in_turns kinds turns (record { places = range_with_len 0 (length kinds); drivers = [] })
+shelf_of kinds turns = shelf_in_turns kinds turns (record { places = places_from 0 kinds; drivers = [] })
