@@ -43,11 +43,7 @@ fn deliveries_and(
 }
 
 /// The bindings to which a list is delivered, and how, in the order of the rows.
-pub fn deliveries_of(
-    alloc: Global,
-    turns: &[Turn],
-    n: u64,
-) -> Result<Vec<(u32, How)>, OutOfMemory>
+pub fn deliveries_of(alloc: Global, turns: &[Turn], n: u64) -> Result<Vec<(u32, How)>, OutOfMemory>
     ensures { IfOk result (λ deliveries. deliveries.items ≡ deliveries_of turns.now n) }
 {
     match turns {
@@ -109,8 +105,7 @@ pub fn are_deliveries(last: How, bindings: &[u32], deliveries: &[(u32, How)]) ->
         [b, others @ ..] => match deliveries {
             [] => false,
             [d, rest @ ..] => d.0 == *b
-                && (same_how(d.1, how_before(last, others))
-                    && are_deliveries(last, others, rest)),
+                && (same_how(d.1, how_before(last, others)) && are_deliveries(last, others, rest)),
         },
     }
 }

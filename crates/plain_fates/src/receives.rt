@@ -9,7 +9,9 @@ use journal_types::{How, StackHead, Turn};
 use ndis_base::{Direction, ListStatus, OutOfMemory};
 use plain_families::Wanted;
 use plain_families::families::last_of_family;
-use plain_families::rows::{count_rows, first_row, frames_in, home_of, is_status, issue_of, status_in};
+use plain_families::rows::{
+    count_rows, first_row, frames_in, home_of, is_status, issue_of, status_in,
+};
 use plain_net::PlainNet;
 use std::alloc::Global;
 

@@ -10,7 +10,6 @@ use plain_deliveries::deliveries::takers;
 use plain_net::PlainNet;
 use std::alloc::Global;
 
-
 fn settles(n: u64, row: &Row) -> bool
     ensures { result ≡ settles n row.now }
 {
