@@ -3,15 +3,15 @@
 #![tactic(auto)]
 
 pub mod calls;
+pub mod counts;
 pub mod kinds;
 pub mod logs;
 pub mod places;
-pub mod served;
 pub mod shelf;
 
 ghost use Rattle.std.specs.Prelude.{◌≡◌};
 
+pub use crate::counts::served;
 pub use crate::logs::log_of;
 pub use crate::places::{miniport_place, protocol_places};
-pub use crate::served::served;
 pub use crate::shelf::{PlainShelf, shelf_of};
