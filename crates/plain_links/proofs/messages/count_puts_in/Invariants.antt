@@ -1,0 +1,6 @@
+use Rattle.std.proofs.Common.{◌≡◌, ◌≤◌, ◌+◌, drop, count_by}
+use Rattle.promise_rules.specs.Links.{puts}
+use Rattle.plain_links.proofs.messages.count_puts_in.Given as goal
+
+abbrev pub invariant-loop-turn : goal.invariant-loop-turn
+invariant-loop-turn l = (count_by (λ t. puts l.stack l.message l.way t.event) l.turns ≡ l.n + count_by (λ t. puts l.stack l.message l.way t.event) (drop l.turn-index l.turns)) × (l.n ≤ l.turn-index)

@@ -1,0 +1,11 @@
+pub mod Calls
+pub mod Carried
+pub mod Completions
+pub mod Drivers
+pub mod Families
+pub mod Fates
+pub mod Followed
+pub mod Links
+pub mod Own
+pub mod Rows
+pub mod Tails
