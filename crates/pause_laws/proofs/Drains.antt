@@ -1,5 +1,5 @@
 -- Cancels and drains: several lists move in one turn.
-use Rattle.std.proofs.Common.{◌≡◌, ℕ, ◌+◌, ◌<◌, ◌≤◌, ◌==◌, ◌&&◌, not, Bool, true, false, cond, List, [], ◌∷◌, ◌++◌, Option, Some, None, map, filter, length, refl, arith, ap, sym, subst, ◌∙◌}
+use Rattle.std.proofs.Common.{◌≡◌, ℕ, ◌≤◌, ◌==◌, Bool, true, false, cond, List, [], ◌∷◌, ◌++◌, Option, Some, None, map, refl, arith, ap, sym, subst, ◌∙◌}
 use Rattle.std.specs.List.{flat_map}
 use Rattle.std.proofs.lemmas.Bool.Decides.{nat_tests}
 use Rattle.ndis_base.specs.declared.ModuleId.{ModuleId}
@@ -19,25 +19,21 @@ use Rattle.stack_rules.specs.Tests.{is_down, is_retain, is_virtual, phase_is_run
 use Rattle.stack_rules.specs.Net.{Net, Modules, after, after_rows, lists, list_of, had_by, passed_to, kind_of_binding, binding_numbers}
 use Rattle.stack_rules.specs.Places.{position, ready_lists}
 use Rattle.stack_rules.specs.Targets.{onward, homeward, homeward_by, turned_back}
-use Rattle.stack_rules.specs.Sends.{first_of, transmitted}
+use Rattle.stack_rules.specs.Sends.{first_of}
 use Rattle.stack_rules.specs.Cancels.{cancel_outcome, cancel_rows_at, cancelled_at, aborted, queues, is_named, holds_lists}
 use Rattle.stack_rules.specs.Drains.{returned_by, returns_all, passed_by, passes_all, empties, empties_ring, drain_rows, drained}
-use Rattle.rule_basics.specs.Live.{is_live, Each, others, retouched, touched, with_last, KeepsNumber}
+use Rattle.rule_basics.specs.Live.{is_live, Each, others, retouched, with_last, KeepsNumber}
 use Rattle.rule_basics.proofs.Lists.{lists-changed, lists-passed}
 use Rattle.rule_basics.proofs.Lives.{find_is, is_live-others}
 use Rattle.state_laws.proofs.Rows.{by_test, after_rows-append}
-use Rattle.state_laws.proofs.Quiet.{All, All-append, All-map, first_of_all}
+use Rattle.state_laws.proofs.Quiet.{All-append, All-map, first_of_all}
 use Rattle.pause_laws.specs.Clear.{IsClear, AreClear}
-use Rattle.pause_laws.proofs.Places.{back_low}
-use Rattle.pause_laws.proofs.Lists.{InHand, hand_take, clear_touched, clear_found, found-touched, none-touched, found-last, gone}
-use Rattle.pause_laws.proofs.Hands.{Clear, Hand, pass_none}
-use Rattle.pause_laws.proofs.Routes.{IsOwned, go_home_from, home_none, go_on, go_back_from}
+use Rattle.pause_laws.proofs.Lists.{same_found, hand_take, clear_touched, clear_found, found-touched, none-touched, found-last, gone}
+use Rattle.pause_laws.proofs.Hands.{Clear, pass_none}
+use Rattle.pause_laws.proofs.Routes.{go_home_from, home_none, go_on, go_back_from}
 use Rattle.pause_laws.proofs.Works.{Facts, IsWorked, found_pass, each_first}
 use Rattle.pause_laws.proofs.Keepers.{IsKeptAt, ready_all, each_of}
 use Rattle.pause_laws.proofs.Sends.{Leaves, transmitted_clear}
-
-some_same : (o : Option LiveList) (x y : LiveList) → o ≡ Some x → o ≡ Some y → x ≡ y
-some_same o x y h k = cc
 
 -- a list as it was, of the same owner and direction
 pub record IsLike (x y : LiveList) : Type 0 where
@@ -92,7 +88,7 @@ descends_pass P net next list way to k d m x f =
     at None e same = absurd (cc (subst (λ n. list_of n (lists (after next (row.Pass list way to)).things) ≡ Some x) (sym same) f, none e))
     at (Some y) e same =
         descend P (passing way to) k (lists net.things) m y x
-        (some_same (list_of list.0 (lists (after next (row.Pass list way to)).things)) (passing way to y) x (now y e) (subst (λ n. list_of n (lists (after next (row.Pass list way to)).things) ≡ Some x) (sym same) f))
+        (same_found (list_of list.0 (lists (after next (row.Pass list way to)).things)) (passing way to y) x (now y e) (subst (λ n. list_of n (lists (after next (row.Pass list way to)).things) ≡ Some x) (sym same) f))
         (subst (λ n. WasThere P (lists net.things) n y) same (d list.0 y e))
 
 found-other : (n m : ℕ) (g : LiveList → LiveList) → KeepsNumber g → (ls : List LiveList) → (n == m) ≡ false → list_of m (retouched n g ls) ≡ list_of m ls
@@ -125,7 +121,7 @@ descends_back P net next list by status k d m x f =
     at None e same = absurd (cc (subst (λ n. list_of n (retouched list.0 (had_by by) (lists next.things)) ≡ Some x) (sym same) now, none-touched list.0 (had_by by) (λ y. refl) (lists next.things) e))
     at (Some y) e same =
         descend P (had_by by) k (lists net.things) m y x
-        (some_same (list_of list.0 (retouched list.0 (had_by by) (lists next.things))) (had_by by y) x (found-touched list.0 (had_by by) (λ z. refl) (lists next.things) y e) (subst (λ n. list_of n (retouched list.0 (had_by by) (lists next.things)) ≡ Some x) (sym same) now))
+        (same_found (list_of list.0 (retouched list.0 (had_by by) (lists next.things))) (had_by by y) x (found-touched list.0 (had_by by) (λ z. refl) (lists next.things) y e) (subst (λ n. list_of n (retouched list.0 (had_by by) (lists next.things)) ≡ Some x) (sym same) now))
         (subst (λ n. WasThere P (lists net.things) n y) same (d list.0 y e))
 
 descends_home : (P : LiveList → LiveList → Type 0) (ms : Modules) (net next : Net) (list : ListNo) (owner : ModuleId) (way_of : Direction) (i : ℕ) (status : ListStatus) → ((way : PassWay) (to : Target) (x y : LiveList) → P x y → P (record x { stand = stand.Passed way to; crossed = None }) y) → Descends P net next →
@@ -167,7 +163,7 @@ last_same x = record { like = like_same x; last = refl }
 alike_now : (P : LiveList → LiveList → Type 0) (net next : Net) (front : ℕ) (l x : LiveList) → IsMoved P net next front → IsWorked net front l → list_of l.list.0 (lists next.things) ≡ Some x → P x l
 alike_now P net next front l x h w f =
     let was : WasThere P (lists net.things) l.list.0 x = h.from l.list.0 x f in
-    subst (P x) (some_same (list_of l.list.0 (lists net.things)) was.was l was.found w.found) was.alike
+    subst (P x) (same_found (list_of l.list.0 (lists net.things)) was.was l was.found w.found) was.alike
 
 -- one goes homewards from the module that kept it
 home_step : (net next : Net) (front : ℕ) → Facts net front → (m : ModuleId) (l : LiveList) (i : ℕ) (status : ListStatus) → front ≤ i → IsKeptAt net front m l → IsMoved IsLike net next front → IsMoved IsLike net (after next (homeward net.modules l i status)) front

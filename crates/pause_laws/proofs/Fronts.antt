@@ -1,8 +1,7 @@
 -- The front moves only past what holds nothing.
-use Rattle.std.proofs.Common.{◌≡◌, ℕ, ◌+◌, ◌<◌, ◌≤◌, ◌==◌, ◌||◌, nat_le, Bool, true, false, cond, List, [], ◌∷◌, ◌⊎◌, inl, inr, Option, Some, None, length, count_by, refl, arith, ap, sym, subst, ◌∙◌}
+use Rattle.std.proofs.Common.{◌≡◌, ℕ, ◌+◌, ◌<◌, ◌≤◌, ◌==◌, ◌||◌, Bool, true, false, List, [], ◌∷◌, ◌⊎◌, inl, inr, length, count_by, refl, arith, ap, sym, subst, ◌∙◌}
 use Rattle.std.proofs.lemmas.Bool.Decides.{nat_tests}
-use Rattle.ndis_base.specs.declared.ModuleId.{ModuleId}
-use Rattle.ndis_base.specs.declared.ModuleId.TheVariants.{Miniport, Filter, Binding}
+use Rattle.ndis_base.specs.declared.ModuleId.TheVariants.{Filter}
 use Rattle.journal_types.specs.declared.PassWay.TheVariants as way
 use Rattle.stack_rules.specs.declared.Stand.{Stand}
 use Rattle.stack_rules.specs.declared.Stand.TheVariants as stand
@@ -17,7 +16,7 @@ use Rattle.rule_basics.proofs.Counts.{one_if, count_by-cons}
 use Rattle.rule_basics.proofs.Each.{Each-implies}
 use Rattle.state_laws.proofs.Changes.{IsMove}
 use Rattle.pause_laws.specs.Clear.{IsNearest, Stands, IsClear, AreClear}
-use Rattle.pause_laws.proofs.Places.{position_most}
+use Rattle.state_laws.proofs.Tops.{position_most}
 
 -- what is above the front counts no list
 none_stands : (ms : Modules) (front i : ℕ) (l : LiveList) (s : Stand) → i < front → front ≤ position ms.order l.owner → (is_down l.direction ≡ true → position ms.order l.owner ≤ position ms.order l.last) → Stands ms front l s → is_at_most i (position_in ms.order l.last s) ≡ false

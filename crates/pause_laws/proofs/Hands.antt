@@ -1,5 +1,5 @@
 -- What each row leaves clear of the paused positions.
-use Rattle.std.proofs.Common.{◌≡◌, ℕ, ◌+◌, ◌≤◌, Bool, true, false, List, [], ◌∷◌, ◌++◌, Option, Some, None, length, refl, arith, ap, sym, subst, ◌∙◌}
+use Rattle.std.proofs.Common.{◌≡◌, ℕ, ◌+◌, ◌≤◌, Bool, true, false, List, [], ◌∷◌, ◌++◌, Option, None, refl, arith, ap, sym, subst, ◌∙◌}
 use Rattle.ndis_base.specs.declared.ModuleId.{ModuleId}
 use Rattle.ndis_base.specs.declared.ListNo.{ListNo}
 use Rattle.ndis_base.specs.declared.ListStatus.{ListStatus}
@@ -14,10 +14,9 @@ use Rattle.journal_types.specs.declared.Row.{Row}
 use Rattle.journal_types.specs.declared.Row.TheVariants as row
 use Rattle.stack_rules.specs.declared.LiveList.{LiveList}
 use Rattle.stack_rules.specs.declared.Stand.TheVariants as stand
-use Rattle.stack_rules.specs.Tests.{is_down}
 use Rattle.stack_rules.specs.Net.{Net, Modules, after, lists, list_of, had_by, taken_by, passed_to, kept_by, request_of}
 use Rattle.stack_rules.specs.Places.{position}
-use Rattle.rule_basics.specs.Live.{Each, others, with_last}
+use Rattle.rule_basics.specs.Live.{others, with_last}
 use Rattle.rule_basics.proofs.Lists.{lists-append, lists-without, lists-changed, lists-kept, lists-passed}
 use Rattle.rule_basics.proofs.Numbered.{lists-things_done, lists-status, lists-without_status}
 use Rattle.pause_laws.specs.Clear.{IsClear, AreClear}

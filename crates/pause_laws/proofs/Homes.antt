@@ -1,10 +1,9 @@
 -- A list on its way home.
-use Rattle.std.proofs.Common.{◌≡◌, ℕ, ◌+◌, ◌<◌, ◌≤◌, ◌==◌, Bool, true, false, List, [], ◌∷◌, Option, Some, None, refl, arith, ap, sym, subst, ◌∙◌}
+use Rattle.std.proofs.Common.{◌≡◌, ℕ, ◌≤◌, Option, Some, None, refl, ap, sym, ◌∙◌}
 use Rattle.ndis_base.specs.declared.ModuleId.{ModuleId}
 use Rattle.ndis_base.specs.declared.ListStatus.{ListStatus}
 use Rattle.ndis_base.specs.declared.Origin.{Origin}
 use Rattle.ndis_base.specs.declared.Origin.TheVariants as origin
-use Rattle.journal_types.specs.declared.Row.{Row}
 use Rattle.journal_types.specs.declared.Row.TheVariants as row
 use Rattle.stack_rules.specs.declared.LiveList.{LiveList}
 use Rattle.stack_rules.specs.Tests.{same_module}
@@ -12,19 +11,15 @@ use Rattle.stack_rules.specs.Net.{Net, after, after_rows, lists, list_of, had_by
 use Rattle.stack_rules.specs.Places.{position}
 use Rattle.stack_rules.specs.Dones.{released, released_list, home_rows, homeward_rows, completed_by}
 use Rattle.stack_rules.specs.Targets.{homeward}
-use Rattle.rule_basics.specs.Live.{others}
 use Rattle.rule_basics.proofs.Lists.{lists-without}
 use Rattle.rule_basics.proofs.Lives.{find_is}
 use Rattle.state_laws.proofs.Rows.{by_test}
 use Rattle.pause_laws.specs.Clear.{IsClear}
-use Rattle.pause_laws.proofs.Lists.{InHand, hand_take, clear_found, found-others}
+use Rattle.pause_laws.proofs.Lists.{same_found, hand_take, clear_found, found-others}
 use Rattle.pause_laws.proofs.Hands.{Clear, clear_skip, hand_give}
-use Rattle.pause_laws.proofs.Routes.{IsOwned, go_home_from, home_none}
+use Rattle.pause_laws.proofs.Routes.{go_home_from, home_none}
 use Rattle.pause_laws.proofs.Works.{Facts, IsWorked}
 use Rattle.pause_laws.proofs.Sends.{Leaves, MayHave}
-
-some_same : (o : Option LiveList) (x y : LiveList) → o ≡ Some x → o ≡ Some y → x ≡ y
-some_same o x y h k = cc
 
 -- the original of a clone that has come home goes homewards from the clone's owner
 original_clear : (net next : Net) (front : ℕ) → Facts net front → (original : LiveList) (i : ℕ) (status : ListStatus) → Clear net.modules front next → ((x : LiveList) → list_of original.list.0 (lists next.things) ≡ Some x → x ≡ original) → front ≤ i → Clear net.modules front (after next (homeward net.modules original i status))
@@ -48,7 +43,7 @@ released_clear net next front facts m (origin.Clone o) status k was a = at (list
     at (Some original) e =
         let number : original.list.0 ≡ o.0 = (find_is o.0 (lists net.things) original e).0 in
         original_clear net next front facts original (position net.modules.order m) status k
-        (λ x f. some_same (list_of o.0 (lists net.things)) x original (was o.0 x (ap (λ n. list_of n (lists next.things)) (sym number) ∙ f)) e) a
+        (λ x f. same_found (list_of o.0 (lists net.things)) x original (was o.0 x (ap (λ n. list_of n (lists next.things)) (sym number) ∙ f)) e) a
 
 pub home_clear : (net : Net) (front : ℕ) → Facts net front → (l : LiveList) (status : ListStatus) → Clear net.modules front net → IsWorked net front l → Leaves net front (home_rows net l status)
 home_clear net front facts l status k w =

@@ -1,5 +1,5 @@
 -- The lists that a module keeps.
-use Rattle.std.proofs.Common.{◌≡◌, ℕ, ◌≤◌, ◌==◌, ◌&&◌, not, Bool, true, false, List, [], ◌∷◌, Option, Some, None, filter, refl, arith, ap, sym, subst}
+use Rattle.std.proofs.Common.{◌≡◌, ℕ, ◌≤◌, not, Bool, true, List, filter, refl, arith, ap, subst}
 use Rattle.std.proofs.lemmas.Bool.Decides.{nat_tests}
 use Rattle.ndis_base.specs.declared.ModuleId.{ModuleId}
 use Rattle.ndis_base.specs.declared.ModuleId.TheVariants.{Miniport, Filter, Binding}
@@ -7,11 +7,11 @@ use Rattle.stack_rules.specs.declared.Stand.{Stand}
 use Rattle.stack_rules.specs.declared.Stand.TheVariants as stand
 use Rattle.stack_rules.specs.declared.LiveList.{LiveList}
 use Rattle.stack_rules.specs.Tests.{is_down, same_module}
-use Rattle.stack_rules.specs.Net.{Net, Modules, lists}
+use Rattle.stack_rules.specs.Net.{Net, lists}
 use Rattle.stack_rules.specs.Places.{position, is_kept_by, kept_lists, ready_lists, waits}
 use Rattle.rule_basics.specs.Live.{Each}
 use Rattle.rule_basics.proofs.Each.{Each-implies}
-use Rattle.pause_laws.specs.Clear.{IsClear, Stands}
+use Rattle.pause_laws.specs.Clear.{Stands}
 use Rattle.pause_laws.proofs.Hands.{Clear}
 use Rattle.pause_laws.proofs.Works.{IsWorked, all_worked, each_filter}
 

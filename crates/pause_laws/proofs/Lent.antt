@@ -1,5 +1,5 @@
 -- A lent list: it is nowhere until it is home in the same turn.
-use Rattle.std.proofs.Common.{◌≡◌, ℕ, ◌+◌, ◌<◌, ◌≤◌, Bool, true, false, List, [], ◌∷◌, ◌++◌, Option, Some, None, filter, reverse, length, refl, arith, ap, sym, subst, ◌∙◌}
+use Rattle.std.proofs.Common.{◌≡◌, ℕ, ◌+◌, ◌≤◌, false, List, [], ◌∷◌, Option, Some, None, filter, reverse, length, refl, ap, sym, subst, ◌∙◌}
 use Rattle.ndis_base.specs.declared.ModuleId.{ModuleId}
 use Rattle.ndis_base.specs.declared.ModuleId.TheVariants.{Miniport, Filter, Binding}
 use Rattle.ndis_base.specs.declared.ListNo.{ListNo}
@@ -22,22 +22,19 @@ use Rattle.stack_rules.specs.Places.{position, is_full}
 use Rattle.stack_rules.specs.Targets.{has_receive, onward}
 use Rattle.stack_rules.specs.Outcome.{list_no, config_no, max_frame}
 use Rattle.stack_rules.specs.Deliveries.{delivered, takers}
-use Rattle.stack_rules.specs.Receives.{lent_home, lent_back, copied, lent_changes, lent_handled, lent_at, lent_delivery, lent_up, lent_rows}
+use Rattle.stack_rules.specs.Receives.{lent_home, lent_back, copied, lent_handled, lent_at, lent_delivery, lent_up, lent_rows}
 use Rattle.rule_basics.specs.Live.{retouched}
 use Rattle.rule_basics.proofs.Lists.{lists-append, lists-changed}
 use Rattle.rule_basics.proofs.Numbered.{below_absent}
 use Rattle.state_laws.proofs.Rows.{by_test, after_rows-append}
 use Rattle.state_laws.proofs.Takes.{attached-is}
 use Rattle.pause_laws.specs.Clear.{IsClear, Stands, AreClear}
-use Rattle.pause_laws.proofs.Lists.{clear_found, clear_touched, found-touched, none-touched, found-last}
+use Rattle.pause_laws.proofs.Lists.{same_found, not_both, clear_found, clear_touched, found-touched, none-touched, found-last}
 use Rattle.pause_laws.proofs.Hands.{Clear, issued, clear_skip, clear_issue}
 use Rattle.pause_laws.proofs.Routes.{issue_on}
 use Rattle.pause_laws.proofs.Works.{Facts}
 use Rattle.pause_laws.proofs.Sends.{Leaves}
 use Rattle.pause_laws.proofs.Receives.{IsDelivered, delivered_clear}
-
-some_same : (o : Option LiveList) (x y : LiveList) → o ≡ Some x → o ≡ Some y → x ≡ y
-some_same o x y h k = cc
 
 -- a list that is nowhere, and no send
 record IsNowhere (x : LiveList) : Type 0 where
@@ -56,7 +53,7 @@ nowhere_touched n m ls h x f = at (list_of n ls) refl
     at (Some y) e =
         let was : IsNowhere y = h y e in
         let now : list_of n (retouched n (had_by m) ls) ≡ Some (had_by m y) = found-touched n (had_by m) (λ z. refl) ls y e in
-        let same : had_by m y ≡ x = some_same (list_of n (retouched n (had_by m) ls)) (had_by m y) x now f in
+        let same : had_by m y ≡ x = same_found (list_of n (retouched n (had_by m) ls)) (had_by m y) x now f in
         subst IsNowhere same record { unplaced = was.unplaced; lent = was.lent }
 
 clear_nowhere : (ms : Modules) (front n : ℕ) (m : ModuleId) (ls : List LiveList) (next : ℕ) → AreNowhere n ls → AreClear ms front ls next → AreClear ms front (retouched n (had_by m) ls) next
@@ -65,11 +62,8 @@ clear_nowhere ms front n m ls next h k =
     (λ x f.
     let c : IsClear ms front x = clear_found ms front n ls next x k f in
     let was : IsNowhere x = h x f in
-    record { owner = c.owner; down = λ d. absurd (clash (is_down x.direction) d was.lent); stands = subst (Stands ms front (had_by m x)) (sym was.unplaced) tt })
+    record { owner = c.owner; down = λ d. absurd (not_both (is_down x.direction) d was.lent); stands = subst (Stands ms front (had_by m x)) (sym was.unplaced) tt })
     k
-  where
-    clash : (b : Bool) → b ≡ true → b ≡ false → ⊥
-    clash b h k = cc
 
 -- a turn while a list is lent
 record IsLending (net next : Net) (front : ℕ) : Type 0 where
@@ -145,6 +139,6 @@ lent_clear net front facts frames a k =
     let lending : IsLending net next front = record {
       clear = clear_issue net.modules front net list Miniport (config_no net.modules.config) direction.Lent None origin.Root frames refl a k;
       next_is = refl;
-      nowhere = λ x f. subst IsNowhere (some_same (list_of net.next.list (lists next.things)) new x found f) record { unplaced = refl; lent = refl };
+      nowhere = λ x f. subst IsNowhere (same_found (list_of net.next.list (lists next.things)) new x found f) record { unplaced = refl; lent = refl };
     } in
     lent_up_clear net next front facts frames (filter (has_receive net.modules) (reverse net.modules.order)) lending

@@ -3,12 +3,18 @@ use Rattle.std.proofs.Common.{◌≡◌, ℕ, ◌+◌, ◌<◌, ◌==◌, ◌&&�
 use Rattle.std.proofs.lemmas.Bool.Decides.{nat_tests}
 use Rattle.stack_rules.specs.declared.LiveList.{LiveList}
 use Rattle.stack_rules.specs.Net.{Modules, list_of}
-use Rattle.rule_basics.specs.Live.{is_live, IsApart, IsBelow, Each, others, touched, retouched, with_last, KeepsNumber}
-use Rattle.rule_basics.proofs.Lives.{number-touched, find_is, is_live-others}
-use Rattle.rule_basics.proofs.Apart.{IsApart-append, IsApart-others, IsApart-retouched, others-absent}
+use Rattle.rule_basics.specs.Live.{is_live, others, retouched, with_last, KeepsNumber}
+use Rattle.rule_basics.proofs.Lives.{find_is, is_live-others}
+use Rattle.rule_basics.proofs.Apart.{IsApart-append, IsApart-others, IsApart-retouched}
 use Rattle.rule_basics.proofs.Each.{Each-append, Each-others, Each-found, Each-implies, Each-retouched}
 use Rattle.rule_basics.proofs.Numbered.{below_absent}
 use Rattle.pause_laws.specs.Clear.{IsClear, AreClear}
+
+pub same_found : (o : Option LiveList) (x y : LiveList) → o ≡ Some x → o ≡ Some y → x ≡ y
+same_found o x y h k = cc
+
+pub not_both : (b : Bool) → b ≡ true → b ≡ false → ⊥
+not_both b h k = cc
 
 -- what is found after a change
 pub found-touched : (n : ℕ) (g : LiveList → LiveList) → KeepsNumber g → (ls : List LiveList) (l : LiveList) → list_of n ls ≡ Some l → list_of n (retouched n g ls) ≡ Some (g l)

@@ -1,5 +1,5 @@
 -- Each event that changes no state of a module leaves the lists clear of what is Paused.
-use Rattle.std.proofs.Common.{◌≡◌, ℕ, ◌+◌, ◌≤◌, Bool, true, false, cond, List, [], ◌∷◌, Option, Some, None, find, not, length, refl, arith, ap, sym, subst, ◌∙◌}
+use Rattle.std.proofs.Common.{◌≡◌, ℕ, ◌+◌, Bool, true, false, cond, List, [], ◌∷◌, Option, Some, None, find, refl, arith, ap, ◌∙◌}
 use Rattle.std.specs.List.{list_any}
 use Rattle.ndis_base.specs.declared.ModuleId.{ModuleId}
 use Rattle.ndis_base.specs.declared.ModuleId.TheVariants.{Miniport, Filter, Binding}
@@ -26,12 +26,12 @@ use Rattle.stack_rules.specs.declared.Thing.{Thing}
 use Rattle.stack_rules.specs.declared.Thing.TheVariants as thing
 use Rattle.stack_rules.specs.Tests.{is_down, is_running, is_unbound, is_halted, is_virtual, phase_is_running}
 use Rattle.stack_rules.specs.Net.{Net, after, after_rows, lists, list_of, is_for}
-use Rattle.stack_rules.specs.Places.{position, is_full, kept_lists, is_kept_by, is_crossed, agenda_first, state_of}
-use Rattle.stack_rules.specs.Targets.{homeward, next_status}
+use Rattle.stack_rules.specs.Places.{position, is_full, kept_lists, is_kept_by, agenda_first, state_of}
+use Rattle.stack_rules.specs.Targets.{next_status}
 use Rattle.stack_rules.specs.Outcome.{Outcome, cross_no, status_no}
 use Rattle.stack_rules.specs.Sends.{first_of, first_in_ring}
 use Rattle.stack_rules.specs.Receives.{give_back_of}
-use Rattle.stack_rules.specs.Drains.{drain_outcome, drain_rows}
+use Rattle.stack_rules.specs.Drains.{drain_outcome}
 use Rattle.stack_rules.specs.Pumps.{moved_rows, thing_rows, request_pump, pump_of, pump_moves}
 use Rattle.stack_rules.specs.Requests.{Giving, given_rows_by, giving_rows, next_giving}
 use Rattle.stack_rules.specs.Statuses.{seen_by_all, status_rows}
@@ -41,15 +41,15 @@ use Rattle.rule_basics.proofs.Lives.{find_is}
 use Rattle.state_laws.proofs.Rows.{by_test}
 use Rattle.state_laws.proofs.Quiet.{is_plain}
 use Rattle.state_laws.proofs.Events.{state_after}
-use Rattle.pause_laws.specs.Clear.{IsClear, Stands}
-use Rattle.pause_laws.proofs.Lists.{InHand, hand_take, clear_found}
+use Rattle.pause_laws.specs.Clear.{Stands}
+use Rattle.pause_laws.proofs.Lists.{not_both, hand_take, clear_found}
 use Rattle.pause_laws.proofs.Hands.{Clear, is_skipped, clear_skip}
-use Rattle.pause_laws.proofs.Routes.{IsOwned, go_home_from}
+use Rattle.pause_laws.proofs.Routes.{go_home_from}
 use Rattle.pause_laws.proofs.Works.{Facts, IsWorked, all_worked, worked_away, each_find, each_first}
 use Rattle.pause_laws.proofs.Keepers.{IsKeptAt, kept_at, kept_all}
-use Rattle.pause_laws.proofs.Sends.{Leaves, MayHave, down_clear, above_miniport, transmit_clear, sent_clear}
+use Rattle.pause_laws.proofs.Sends.{Leaves, down_clear, above_miniport, transmit_clear, sent_clear}
 use Rattle.pause_laws.proofs.Homes.{homeward_clear}
-use Rattle.pause_laws.proofs.Receives.{IsRising, up_clear}
+use Rattle.pause_laws.proofs.Receives.{up_clear}
 use Rattle.pause_laws.proofs.Lent.{lent_clear}
 use Rattle.pause_laws.proofs.Drains.{cancel_clear, drain_clear}
 
@@ -78,9 +78,6 @@ skip_given net g = (refl, given g.module_id)
     given (Filter f) = (refl, tt)
     given (Binding b) = tt
 
-clash : (b : Bool) → b ≡ true → b ≡ false → ⊥
-clash b h k = cc
-
 -- a list on its way
 moved_clear : (net : Net) (front : ℕ) → Facts net front → (l : LiveList) (s : Stand) (keeps : Bool) → Stands net.modules front l s → Clear net.modules front net → IsWorked net front l → Leaves net front (moved_rows net l s keeps)
 moved_clear net front facts l stand.Unplaced keeps s k w = k
@@ -93,7 +90,7 @@ moved_clear net front facts l (stand.Passed (way.Done status) (Module m)) keeps 
     homeward_clear net front facts l m status k w record { at = omega (arith, s.1, w.clear.owner); below = λ _. s.1 }
 moved_clear net front facts l (stand.Passed (way.Done status) Bindings) keeps s k w = k
 moved_clear net front facts l (stand.Passed (way.Back status) (Module m)) keeps s k w =
-    homeward_clear net front facts l m status k w record { at = s.1; below = λ d. absurd (clash (is_down l.direction) d s.0) }
+    homeward_clear net front facts l m status k w record { at = s.1; below = λ d. absurd (not_both (is_down l.direction) d s.0) }
 moved_clear net front facts l (stand.Passed (way.Back status) Bindings) keeps s k w = k
 
 -- a pump

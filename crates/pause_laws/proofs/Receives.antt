@@ -1,5 +1,5 @@
 -- Receives on their way up, and their delivery.
-use Rattle.std.proofs.Common.{◌≡◌, ℕ, ◌+◌, ◌<◌, ◌≤◌, ◌&&◌, Bool, true, false, List, [], ◌∷◌, ◌++◌, Option, Some, None, refl, arith, ap, sym, subst, ◌∙◌}
+use Rattle.std.proofs.Common.{◌≡◌, ℕ, ◌+◌, ◌<◌, ◌≤◌, ◌&&◌, Bool, false, List, [], ◌∷◌, Option, Some, None, refl, arith, ap, sym, subst}
 use Rattle.ndis_base.specs.declared.ModuleId.{ModuleId}
 use Rattle.ndis_base.specs.declared.ModuleId.TheVariants.{Miniport, Filter, Binding}
 use Rattle.ndis_base.specs.declared.ListNo.{ListNo}
@@ -17,7 +17,7 @@ use Rattle.stack_rules.specs.declared.Attached.{Attached}
 use Rattle.stack_rules.specs.Tests.{is_down, is_running, is_retain, phase_is_running}
 use Rattle.stack_rules.specs.Net.{Net, after, after_rows, lists, list_of, attached, kind_of_binding}
 use Rattle.stack_rules.specs.Places.{position, position_of_target}
-use Rattle.stack_rules.specs.Targets.{onward, homeward, turned_back, next_back}
+use Rattle.stack_rules.specs.Targets.{homeward, turned_back}
 use Rattle.stack_rules.specs.Outcome.{list_no, config_no}
 use Rattle.stack_rules.specs.Deliveries.{echoes, echoed, how_for, delivered, settled, last_of, takers, delivery_rows}
 use Rattle.stack_rules.specs.Receives.{up_at_filter, up_rows}
@@ -25,9 +25,9 @@ use Rattle.state_laws.proofs.Rows.{by_test, after_rows-append}
 use Rattle.state_laws.proofs.Takes.{attached-is}
 use Rattle.pause_laws.specs.Clear.{IsClear, IsNearest}
 use Rattle.pause_laws.proofs.Places.{back_nearest}
-use Rattle.pause_laws.proofs.Lists.{InHand, hand_take}
+use Rattle.pause_laws.proofs.Lists.{not_both, hand_take}
 use Rattle.pause_laws.proofs.Hands.{Clear, put_keep}
-use Rattle.pause_laws.proofs.Routes.{IsOwned, go_home_from, go_back, issue_on}
+use Rattle.pause_laws.proofs.Routes.{go_home_from, go_back, issue_on}
 use Rattle.pause_laws.proofs.Works.{Facts, IsWorked, found_issue_on}
 use Rattle.pause_laws.proofs.Sends.{Leaves, MayHave, filter_clear}
 
@@ -82,22 +82,16 @@ pub record IsRising (net : Net) (front : ℕ) (to : Target) (l : LiveList) : Typ
 -- a receive is turned back where it went
 rising_back : (net : Net) (front : ℕ) → Facts net front → (l : LiveList) (to : Target) (m : ModuleId) → position net.modules.order m ≡ position_of_target net.modules.order to → Clear net.modules front net → IsWorked net front l → IsRising net front to l → Leaves net front (turned_back net.modules l m Paused)
 rising_back net front facts l to m e k w r =
-    go_back net.modules front facts.distinct net l m Paused l (hand_take net.modules front l.list.0 l (lists net.things) net.next.list k w.found) refl refl w.clear.owner (λ d. absurd (clash (is_down l.direction) d r.up))
+    go_back net.modules front facts.distinct net l m Paused l (hand_take net.modules front l.list.0 l (lists net.things) net.next.list k w.found) refl refl w.clear.owner (λ d. absurd (not_both (is_down l.direction) d r.up))
     (λ _. back_nearest net.modules front (position net.modules.order l.last) (position net.modules.order m) l.owner facts.distinct (subst (IsNearest net.modules (position net.modules.order l.last)) (sym e) r.nearest) r.last w.clear.owner)
-  where
-    clash : (b : Bool) → b ≡ true → b ≡ false → ⊥
-    clash b h k = cc
 
 up_filter_clear : (net : Net) (front : ℕ) → Facts net front → (f : ℕ) (o : Option Attached) (l : LiveList) (keeps : Bool) → attached f net.modules.filters ≡ o → Clear net.modules front net → IsWorked net front l → IsRising net front (Module (Filter f)) l → Leaves net front (up_at_filter net o l keeps)
 up_filter_clear net front facts f None l keeps e k w r = k
 up_filter_clear net front facts f (Some a) l keeps e k w r =
     let same : a.filter ≡ f = attached-is f net.modules.filters a e in
     by_test (Leaves net front) (is_running a.state) _ _
-    (λ runs. filter_clear net front facts a l keeps k w (subst (λ g. MayHave net front (Filter g) l) (sym same) record { at = facts.filter f a e runs; below = λ d. absurd (clash (is_down l.direction) d r.up) }))
+    (λ runs. filter_clear net front facts a l keeps k w (subst (λ g. MayHave net front (Filter g) l) (sym same) record { at = facts.filter f a e runs; below = λ d. absurd (not_both (is_down l.direction) d r.up) }))
     (λ _. rising_back net front facts l (Module (Filter f)) (Filter a.filter) (ap (λ g. position net.modules.order (Filter g)) same) k w r)
-  where
-    clash : (b : Bool) → b ≡ true → b ≡ false → ⊥
-    clash b h k = cc
 
 pub up_clear : (net : Net) (front : ℕ) → Facts net front → (l : LiveList) (to : Target) (keeps : Bool) → Clear net.modules front net → IsWorked net front l → IsRising net front to l → Leaves net front (up_rows net l to keeps)
 up_clear net front facts l (Module (Filter f)) keeps k w r = up_filter_clear net front facts f (attached f net.modules.filters) l keeps refl k w r

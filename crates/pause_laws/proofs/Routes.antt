@@ -1,5 +1,5 @@
 -- A list that is in hand goes onwards, homewards or is turned back.
-use Rattle.std.proofs.Common.{◌≡◌, ℕ, ◌+◌, ◌≤◌, ◌<◌, Bool, true, false, List, [], ◌∷◌, Option, Some, None, length, refl, arith, ap, sym, subst, ◌∙◌}
+use Rattle.std.proofs.Common.{◌≡◌, ℕ, ◌≤◌, true, false, List, [], ◌∷◌, Option, None, refl, arith, ap, sym, subst}
 use Rattle.ndis_base.specs.declared.ModuleId.{ModuleId}
 use Rattle.ndis_base.specs.declared.ListNo.{ListNo}
 use Rattle.ndis_base.specs.declared.ListStatus.{ListStatus}
@@ -8,7 +8,6 @@ use Rattle.ndis_base.specs.declared.Direction.{Direction}
 use Rattle.ndis_base.specs.declared.Direction.TheVariants as direction
 use Rattle.ndis_base.specs.declared.Origin.{Origin}
 use Rattle.journal_types.specs.declared.PassWay.TheVariants as way
-use Rattle.journal_types.specs.declared.Row.{Row}
 use Rattle.journal_types.specs.declared.Row.TheVariants as row
 use Rattle.stack_rules.specs.declared.LiveList.{LiveList}
 use Rattle.stack_rules.specs.Tests.{is_down}
@@ -16,8 +15,9 @@ use Rattle.stack_rules.specs.Net.{Net, Modules, after, after_rows, lists, list_o
 use Rattle.stack_rules.specs.Places.{position, position_of_target}
 use Rattle.stack_rules.specs.Targets.{next_down, next_up, next_done, next_back, onward, homeward_by, turned_back}
 use Rattle.state_laws.specs.Shape.{IsDistinct}
-use Rattle.pause_laws.specs.Clear.{IsClear, IsNearest}
-use Rattle.pause_laws.proofs.Places.{position_most, down_low, done_low, back_low, up_nearest}
+use Rattle.pause_laws.specs.Clear.{IsNearest}
+use Rattle.state_laws.proofs.Tops.{position_most}
+use Rattle.pause_laws.proofs.Places.{down_low, done_low, back_low, up_nearest}
 use Rattle.pause_laws.proofs.Hands.{Clear, Hand, issued, hand_back, put_pass, pass_none, issue_new}
 
 module _ (ms : Modules) (front : ℕ) (d : IsDistinct ms.order) where

@@ -1,5 +1,5 @@
 -- A list at a filter, a send on its way down, and what a ring or loop adapter transmits.
-use Rattle.std.proofs.Common.{◌≡◌, ℕ, ◌+◌, ◌<◌, ◌≤◌, ◌==◌, ◌&&◌, not, Bool, true, false, cond, List, [], ◌∷◌, ◌++◌, Option, Some, None, length, refl, arith, ap, sym, subst, ◌∙◌}
+use Rattle.std.proofs.Common.{◌≡◌, ℕ, ◌+◌, ◌<◌, ◌≤◌, ◌==◌, ◌&&◌, Bool, true, false, List, [], ◌∷◌, ◌++◌, Option, Some, None, length, refl, arith, ap, sym, subst, ◌∙◌}
 use Rattle.std.proofs.lemmas.Bool.Decides.{nat_tests}
 use Rattle.ndis_base.specs.declared.ModuleId.{ModuleId}
 use Rattle.ndis_base.specs.declared.ModuleId.TheVariants.{Miniport, Filter, Binding}
@@ -14,24 +14,23 @@ use Rattle.journal_types.specs.declared.Row.{Row}
 use Rattle.journal_types.specs.declared.Row.TheVariants as row
 use Rattle.stack_rules.specs.declared.LiveList.{LiveList}
 use Rattle.stack_rules.specs.declared.Attached.{Attached}
-use Rattle.stack_rules.specs.declared.Stand.TheVariants as stand
-use Rattle.stack_rules.specs.Tests.{is_down, is_hold, is_loop, phase_is_running, same_frames}
+use Rattle.stack_rules.specs.Tests.{is_down, is_hold, same_frames}
 use Rattle.stack_rules.specs.Net.{Net, after, after_rows, lists, list_of, attached, had_by, kept_by}
 use Rattle.stack_rules.specs.Places.{position, is_full}
 use Rattle.stack_rules.specs.Targets.{onward, homeward, turned_back}
 use Rattle.stack_rules.specs.Outcome.{list_no, config_no, root}
 use Rattle.stack_rules.specs.Handled.{stays, changes, cloned, handled_as, made_of, filter_rows, given_by}
-use Rattle.stack_rules.specs.Sends.{ring_is_full, miniport_rows, at_filter, down_rows, loops, looped, transmitted, transmit_of, first_in_ring}
+use Rattle.stack_rules.specs.Sends.{ring_is_full, at_filter, down_rows, loops, transmitted, transmit_of}
 use Rattle.rule_basics.specs.Live.{is_live, others, with_last}
 use Rattle.rule_basics.proofs.Lists.{lists-append, lists-changed, lists-kept}
 use Rattle.rule_basics.proofs.Lives.{is_live-retouched}
 use Rattle.rule_basics.proofs.Numbered.{below_absent}
-use Rattle.state_laws.proofs.Rows.{by_test, after_rows-append}
+use Rattle.state_laws.proofs.Rows.{by_test}
 use Rattle.state_laws.proofs.Takes.{attached-is}
 use Rattle.pause_laws.specs.Clear.{IsClear}
-use Rattle.pause_laws.proofs.Places.{position_most}
-use Rattle.pause_laws.proofs.Lists.{InHand, hand_take, found-last, found-moved}
-use Rattle.pause_laws.proofs.Hands.{Clear, Hand, issued, clear_skip, hand_give, put_keep, issue_beside}
+use Rattle.state_laws.proofs.Tops.{position_most}
+use Rattle.pause_laws.proofs.Lists.{hand_take, found-last, found-moved}
+use Rattle.pause_laws.proofs.Hands.{Clear, Hand, issued, hand_give, put_keep, issue_beside}
 use Rattle.pause_laws.proofs.Routes.{IsOwned, go_on, go_home_from, go_back_from, issue_on}
 use Rattle.pause_laws.proofs.Works.{Facts, IsWorked, found_issue_on}
 

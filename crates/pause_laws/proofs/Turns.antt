@@ -1,7 +1,6 @@
 -- Each turn leaves the lists clear of what is Paused.
-use Rattle.std.proofs.Common.{◌≡◌, ℕ, ◌+◌, ◌<◌, ◌≤◌, Bool, true, false, List, [], ◌∷◌, ◌⊎◌, inl, inr, Option, Some, None, length, get_or, refl, arith, ap, sym, subst, ◌∙◌}
-use Rattle.ndis_base.specs.declared.ModuleId.{ModuleId}
-use Rattle.ndis_base.specs.declared.ModuleId.TheVariants.{Miniport, Filter, Binding}
+use Rattle.std.proofs.Common.{◌≡◌, ℕ, ◌+◌, ◌≤◌, Bool, true, false, List, [], ◌∷◌, ◌⊎◌, inl, inr, length, refl, arith, ap, sym, subst, ◌∙◌}
+use Rattle.ndis_base.specs.declared.ModuleId.TheVariants.{Filter}
 use Rattle.ndis_base.specs.declared.ModuleState.{ModuleState}
 use Rattle.ndis_base.specs.declared.ModuleState.TheVariants as state
 use Rattle.ndis_base.specs.declared.Phase.{Phase}
@@ -9,24 +8,21 @@ use Rattle.ndis_base.specs.declared.Phase.TheVariants as phase
 use Rattle.journal_types.specs.declared.StackHead.{StackHead}
 use Rattle.journal_types.specs.declared.Event.{Event}
 use Rattle.journal_types.specs.declared.Turn.{Turn}
-use Rattle.stack_rules.specs.declared.Attached.{Attached}
 use Rattle.stack_rules.specs.declared.LiveList.{LiveList}
 use Rattle.stack_rules.specs.declared.Choice.{Choice}
-use Rattle.stack_rules.specs.Tests.{is_paused, is_running, phase_is_running}
+use Rattle.stack_rules.specs.Tests.{is_running, phase_is_running}
 use Rattle.stack_rules.specs.Net.{Net, Modules, start, after_turn, after_turns, seen, lists, attached}
-use Rattle.stack_rules.specs.Places.{position, outstanding, state_of, state_in}
+use Rattle.stack_rules.specs.Places.{position}
 use Rattle.stack_rules.specs.Sound.{outcome, SoundFrom, Sound}
-use Rattle.rule_basics.specs.Live.{Each}
-use Rattle.state_laws.specs.Shape.{state_at, StatesAre, IsWired, Fits, IsShaped}
+use Rattle.state_laws.specs.Shape.{state_at, StatesAre, IsWired, IsShaped}
 use Rattle.state_laws.proofs.Rows.{IsSame}
 use Rattle.state_laws.proofs.Quiet.{is_plain}
 use Rattle.state_laws.proofs.Changes.{IsChanged, IsMove}
-use Rattle.state_laws.proofs.Events.{state_after, at_phase, when_running, event_kept, plain_same, same_shape, turn_is, shaped_start}
-use Rattle.state_laws.proofs.States.{attached_state, paused_above, running_below, binding_state}
+use Rattle.state_laws.proofs.Events.{state_after, at_phase, event_kept, plain_same, same_shape, turn_is, shaped_start}
+use Rattle.state_laws.proofs.States.{attached_state, running_below}
 use Rattle.pause_laws.specs.Clear.{AreClear, IsHeld}
 use Rattle.pause_laws.specs.Laws.{PausedHoldsNothing, NothingIsLive}
-use Rattle.pause_laws.proofs.Places.{position_most}
-use Rattle.pause_laws.proofs.Hands.{Clear}
+use Rattle.state_laws.proofs.Tops.{paused_front}
 use Rattle.pause_laws.proofs.Works.{Facts}
 use Rattle.pause_laws.proofs.Pumps.{plain_clear}
 use Rattle.pause_laws.proofs.Fronts.{none_counted, move_clear, none_live}
@@ -46,9 +42,6 @@ runs_not net p front e n r = absurd (cc (ap phase_is_running e, n, r))
 facts_of : (net : Net) (s : IsShaped net) → Facts net s.front
 facts_of net s = by net.phase refl
   where
-    many : ℕ
-    many = length net.head.bindings
-
     by : (p : Phase) → net.phase ≡ p → Facts net s.front
     by phase.Halted e =
         let f = at_phase net phase.Halted s e in
@@ -112,42 +105,6 @@ held_turns net (turn ∷ turns) h s =
 
 pub held_journal : (head : StackHead) (turns : List Turn) → Sound head turns → IsHeld (seen head turns)
 held_journal head turns s = held_turns (start head) turns (held_start head) s
-
--- a module that is Paused is above the front
-paused_by : (net : Net) (front many : ℕ) (states : ℕ → ModuleState) → IsWired net.next.filter net.modules → StatesAre many net.modules states → ((i : ℕ) → i ≤ length net.modules.order + 1 → is_paused (states i) ≡ true → i < front) → (m : ModuleId) → state_of net m ≡ state.Paused → position net.modules.order m < front
-paused_by net front many states w h above_front Miniport e = above_front (length net.modules.order + 1) (omega arith) (ap is_paused (sym h.miniport ∙ e))
-paused_by net front many states w h above_front (Binding b) e =
-    above_front 0 (omega arith) (ap is_paused (sym (binding_state many net.modules.bindings (states 0) b h.bindings (ap is_paused e)) ∙ e))
-paused_by net front many states w h above_front (Filter f) e = at (attached f net.modules.filters) refl
-  where
-    at : (o : Option Attached) → attached f net.modules.filters ≡ o → position net.modules.order (Filter f) < front
-    at None is = absurd (cc (ap is_paused (sym (ap state_in is) ∙ e)))
-    at (Some a) is =
-        let same : a.state ≡ state.Paused = sym (ap state_in is) ∙ e in
-        above_front (position net.modules.order (Filter f)) (position_most net.modules.order (Filter f)) (ap is_paused (sym (attached_state many net.modules states f a w.within h is) ∙ same))
-
-paused_front : (net : Net) (s : IsShaped net) (m : ModuleId) → state_of net m ≡ state.Paused → position net.modules.order m < s.front
-paused_front net s m q = by net.phase refl
-  where
-    halted_not : (m : ModuleId) → net.phase ≡ phase.Halted → state_of net m ≡ state.Paused → ⊥
-    halted_not Miniport e q = let f = at_phase net phase.Halted s e in cc (ap is_paused (sym f.0.miniport ∙ q))
-    halted_not (Binding b) e q = let f = at_phase net phase.Halted s e in cc (ap is_paused (sym (binding_state (length net.head.bindings) net.modules.bindings state.Unbound b f.0.bindings (ap is_paused q)) ∙ q))
-    halted_not (Filter g) e q = let f = at_phase net phase.Halted s e in cc (ap is_paused (sym (ap (λ entries. state_in (attached g entries)) f.0.filters) ∙ q))
-
-    by : (p : Phase) → net.phase ≡ p → position net.modules.order m < s.front
-    by phase.Halted e = absurd (halted_not m e q)
-    by phase.Paused e =
-        let f = at_phase net phase.Paused s e in
-        paused_by net s.front (length net.head.bindings) (λ p. state.Paused) f.0 f.1.0 (λ i a r. omega (arith, a, f.1.1)) m q
-    by phase.Restarting e =
-        let f = at_phase net phase.Restarting s e in
-        paused_by net s.front (length net.head.bindings) (state_at s.front s.front) f.0 f.1.states (λ i a r. paused_above s.front s.front i r) m q
-    by phase.Running e =
-        let f = at_phase net phase.Running s e in
-        paused_by net s.front (length net.head.bindings) (state_at 0 0) f.0 f.1.0.states (λ i a r. omega (arith, paused_above 0 0 i r)) m q
-    by phase.Pausing e =
-        let f = at_phase net phase.Pausing s e in
-        paused_by net s.front (length net.head.bindings) (state_at s.front (s.front + 1)) f.0 f.1.states (λ i a r. paused_above s.front (s.front + 1) i r) m q
 
 -- the laws
 pub holds_nothing : (head : StackHead) (turns : List Turn) → Sound head turns → PausedHoldsNothing (seen head turns)

@@ -1,5 +1,5 @@
 -- The lists that an event works.
-use Rattle.std.proofs.Common.{◌≡◌, ℕ, ◌+◌, ◌<◌, ◌≤◌, ◌==◌, not, Bool, true, false, cond, List, [], ◌∷◌, ◌++◌, Option, Some, None, length, filter, find, refl, arith, ap, sym, subst, ◌∙◌}
+use Rattle.std.proofs.Common.{◌≡◌, ℕ, ◌+◌, ◌<◌, ◌≤◌, ◌==◌, not, Bool, true, false, cond, List, [], ◌∷◌, Option, Some, None, length, filter, find, refl, arith, ap, subst, ◌∙◌}
 use Rattle.std.proofs.lemmas.Bool.Decides.{nat_tests}
 use Rattle.ndis_base.specs.declared.ModuleId.{ModuleId}
 use Rattle.ndis_base.specs.declared.ModuleId.TheVariants.{Filter}
@@ -15,7 +15,6 @@ use Rattle.stack_rules.specs.declared.LiveList.{LiveList}
 use Rattle.stack_rules.specs.declared.Attached.{Attached}
 use Rattle.stack_rules.specs.declared.Thing.{Thing}
 use Rattle.stack_rules.specs.declared.Thing.TheVariants as thing
-use Rattle.stack_rules.specs.declared.Stand.TheVariants as stand
 use Rattle.stack_rules.specs.Tests.{is_running, phase_is_running}
 use Rattle.stack_rules.specs.Net.{Net, Modules, after, after_rows, lists, list_of, attached, passed_to}
 use Rattle.stack_rules.specs.Places.{position, is_away, agenda_first}
@@ -41,11 +40,6 @@ pub record Facts (net : Net) (front : ℕ) : Type 0 where
 pub record IsWorked (net : Net) (front : ℕ) (l : LiveList) : Type 0 where
   pub found : list_of l.list.0 (lists net.things) ≡ Some l
   pub clear : IsClear net.modules front l
-
--- it passed a test
-pub record IsPicked (net : Net) (front : ℕ) (test : LiveList → Bool) (l : LiveList) : Type 0 where
-  pub worked : IsWorked net front l
-  pub picked : test l ≡ true
 
 all_found : (ls : List LiveList) → IsApart ls → Each (λ l. list_of l.list.0 ls ≡ Some l) ls
 all_found [] a = tt
@@ -144,9 +138,3 @@ found_issue_on ms net list owner config way_of cancel origin frames i m l a f =
   where
     apart : (n m : ℕ) → m < n → (n == m) ≡ false
     apart n m a = grind (arith, nat_tests)
-
--- and the number after it is the next one
-pub next_onward : (ms : Modules) (net : Net) (list : ListNo) (way_of : Direction) (i : ℕ) → (after net (onward ms list way_of i)).next.list ≡ net.next.list
-next_onward ms net list direction.Down i = refl
-next_onward ms net list direction.Up i = refl
-next_onward ms net list direction.Lent i = refl

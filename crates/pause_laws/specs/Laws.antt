@@ -2,7 +2,6 @@
 use Rattle.std.specs.Prelude.{◌≡◌, []}
 use Rattle.ndis_base.specs.declared.ModuleId.{ModuleId}
 use Rattle.ndis_base.specs.declared.ModuleState.TheVariants as state
-use Rattle.ndis_base.specs.declared.Phase.TheVariants as phase
 use Rattle.stack_rules.specs.Net.{Net, lists}
 use Rattle.stack_rules.specs.Places.{outstanding, position, state_of}
 

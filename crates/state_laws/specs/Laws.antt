@@ -1,5 +1,5 @@
 -- What is promised of the states of the modules after every sound journal.
-use Rattle.std.specs.Prelude.{ℕ, ◌≡◌, ◌<◌, ◌↔◌, true, length, replicate}
+use Rattle.std.specs.Prelude.{◌≡◌, ◌<◌, ◌↔◌, true, length, replicate}
 use Rattle.ndis_base.specs.declared.ModuleId.{ModuleId}
 use Rattle.ndis_base.specs.declared.ModuleId.TheVariants.{Miniport, Filter, Binding}
 use Rattle.ndis_base.specs.declared.ModuleState.{ModuleState}
