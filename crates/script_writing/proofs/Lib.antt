@@ -1,7 +1,7 @@
-pub mod Calls
-pub mod Filters
+pub mod CallsRead
+pub mod FiltersRead
+pub mod ScriptRead
 pub mod Shapes
-pub mod Stacks
+pub mod StacksRead
 pub mod Texts
-pub mod Values
-pub mod Whole
+pub mod ValuesRead

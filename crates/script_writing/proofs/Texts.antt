@@ -9,7 +9,7 @@ use Rattle.script_forms.specs.Script.{Says, json, script_in}
 use Rattle.script_writing.specs.Limits.{is_script}
 use Rattle.script_writing.specs.Written.{script_data}
 use Rattle.script_writing.proofs.Shapes.{script_data-depth, script_data-whole}
-use Rattle.script_writing.proofs.Whole.{script_in-script_data}
+use Rattle.script_writing.proofs.ScriptRead.{script_in-script_data}
 
 pub text_of_script : (bytes : List ℕ) (script : Script) (d : Data) → d ≡ script_data script → (has_float d ≡ false → bytes ≡ compact_text d) → bytes ≡ compact_text (script_data script)
 text_of_script bytes script d is text = text (ap has_float is ∙ script_data-whole script) ∙ ap compact_text is

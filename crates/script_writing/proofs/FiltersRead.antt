@@ -18,7 +18,7 @@ use Rattle.script_forms.specs.Results.{◌>>=◌}
 use Rattle.script_forms.specs.Values.{number_in}
 use Rattle.script_writing.specs.Limits.{is_within, is_setup}
 use Rattle.script_writing.specs.Written.{filter_data}
-use Rattle.script_writing.proofs.Values.{number_in-number_data}
+use Rattle.script_writing.proofs.ValuesRead.{number_in-number_data}
 
 filter_kind_in-written : (k : FilterKind) → filter_kind_in (string (filter_kind_text k)) ≡ Ok k
 filter_kind_in-written kind.Pass = refl

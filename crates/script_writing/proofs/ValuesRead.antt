@@ -21,7 +21,7 @@ use Rattle.script_types.specs.declared.ScriptCause.{ScriptCause}
 use Rattle.script_types.specs.declared.ScriptCause.TheVariants as cause
 use Rattle.script_forms.proofs.Digits.{numerals}
 use Rattle.script_forms.specs.Results.{◌>>=◌}
-use Rattle.script_forms.specs.Values.{ranged, number_in, below, place_in, counted, list_in, hex_or_fault, hex_in, sized, address_in, code_in, value_in, frame_in, frames_in, filter_of_digits, filter_name_in}
+use Rattle.script_forms.specs.Values.{ranged, number_in, below, place_in, counted, list_in, hex_or_fault, hex_in, sized, address_in, code_in, value_in, frame_in, frames_in, filter_of_digits, filter_of_text, filter_name_in}
 use Rattle.script_writing.specs.Limits.{is_within, is_frame, are_frames, is_value}
 use Rattle.script_writing.specs.Written.{list_data, frames_data, code_data, filter_name_data}
 
@@ -145,5 +145,10 @@ filter_of_digits-decimal n h =
     (both (list_all is_ascii_digit (decimal n)) _ digits (both (nat_lt 0 (length (decimal n))) _ some few))
     ∙ ap Ok (digits_value-decimal numerals n wide)
 
+filter_of_text-digits : (digits : List ℕ) → filter_of_text (102 ∷ digits) ≡ filter_of_digits digits
+filter_of_text-digits digits =
+    guarded (nat_lt 0 (length (102 ∷ digits)) && true) (filter_of_digits digits) (Err cause.Range)
+    (both (nat_lt 0 (length (102 ∷ digits))) true (lt-test 0 (length (102 ∷ digits)) (omega arith)) refl)
+
 pub filter_name_in-filter_name_data : (n : ℕ) → nat_le n 999999999 ≡ true → filter_name_in (filter_name_data n) ≡ Ok n
-filter_name_in-filter_name_data n h = filter_of_digits-decimal n (le-from_test n 999999999 h)
+filter_name_in-filter_name_data n h = filter_of_text-digits (decimal n) ∙ filter_of_digits-decimal n (le-from_test n 999999999 h)

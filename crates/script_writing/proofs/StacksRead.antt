@@ -27,8 +27,8 @@ use Rattle.script_forms.specs.Stack.{miniport_kind_in, protocol_kind_in, earlier
 use Rattle.script_forms.specs.Values.{number_in, address_in, list_in}
 use Rattle.script_writing.specs.Limits.{is_within, is_filter, is_binding, is_port, is_stack, is_mux, may_stand, may_link, is_unlinked, is_linked, are_linked}
 use Rattle.script_writing.specs.Written.{filter_data, filters_data, plain_port_data, linked_port_data, port_data, miniport_data, binding_data, stack_data}
-use Rattle.script_writing.proofs.Filters.{filter_in-filter_data}
-use Rattle.script_writing.proofs.Values.{at_most, up_to, le-from_test, lt-from_test, unless, number_in-number_data, list_in-written, read_all-each, address_in-hex_data}
+use Rattle.script_writing.proofs.FiltersRead.{filter_in-filter_data}
+use Rattle.script_writing.proofs.ValuesRead.{at_most, up_to, le-from_test, lt-from_test, unless, number_in-number_data, list_in-written, read_all-each, address_in-hex_data}
 
 miniport_kind_in-written : (k : MiniportKind) → miniport_kind_in (string (miniport_kind_text k)) ≡ Ok k
 miniport_kind_in-written miniport_kind.Ring = refl

@@ -23,9 +23,9 @@ use Rattle.script_forms.specs.Script.{Outline, outline_in, stack_after, call_aft
 use Rattle.script_forms.specs.Values.{number_in, list_in}
 use Rattle.script_writing.specs.Limits.{is_within, is_stack, is_linked, are_linked, are_stacks, is_call, are_calls, is_script}
 use Rattle.script_writing.specs.Written.{stack_data, call_data, script_data}
-use Rattle.script_writing.proofs.Calls.{call_in-call_data}
-use Rattle.script_writing.proofs.Stacks.{stack_in-stack_data, are_linked-at}
-use Rattle.script_writing.proofs.Values.{at_most, up_to, le-from_test, unless, number_in-number_data, list_in-written}
+use Rattle.script_writing.proofs.CallsRead.{call_in-call_data}
+use Rattle.script_writing.proofs.StacksRead.{stack_in-stack_data, are_linked-at}
+use Rattle.script_writing.proofs.ValuesRead.{at_most, up_to, le-from_test, unless, number_in-number_data, list_in-written}
 
 list_all-front : {A : Type 0} (p : A → Bool) (done rest : List A) → list_all p (done ++ rest) ≡ true → list_all p done ≡ true
 list_all-front p done rest h = and-left _ _ (sym (list_all-append p done rest) ∙ h)

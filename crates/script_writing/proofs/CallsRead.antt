@@ -33,9 +33,9 @@ use Rattle.script_forms.specs.Stack.{bindings_of, bindings_at}
 use Rattle.script_forms.specs.Values.{members_in, at, number_in, place_in}
 use Rattle.script_writing.specs.Limits.{is_within, is_setup, is_stack, is_virtual, is_cancel, are_frames, may_ask, may_ask_of, is_binding_of, is_call}
 use Rattle.script_writing.specs.Written.{kind_data, call_data, send_data}
-use Rattle.script_writing.proofs.Filters.{filter_in-filter_data}
-use Rattle.script_writing.proofs.Stacks.{bindings_at-few}
-use Rattle.script_writing.proofs.Values.{up_to, le-from_test, lt-from_test, lt-test, number_in-number_data, place_in-number_data, frames_in-frames_data, code_in-code_data, value_in-hex_data, filter_name_in-filter_name_data}
+use Rattle.script_writing.proofs.FiltersRead.{filter_in-filter_data}
+use Rattle.script_writing.proofs.StacksRead.{bindings_at-few}
+use Rattle.script_writing.proofs.ValuesRead.{up_to, le-from_test, lt-from_test, lt-test, number_in-number_data, place_in-number_data, frames_in-frames_data, code_in-code_data, value_in-hex_data, filter_name_in-filter_name_data}
 
 abbrev word_of : CallKind → CallWord
 word_of (ask.Send binding cancel frames) = word.Send
