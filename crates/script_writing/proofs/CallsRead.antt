@@ -1,17 +1,14 @@
 -- A call is read as it was written.
-use Rattle.std.proofs.Common.{◌≡◌, ℕ, zero, suc, ◌<◌, ◌≤◌, Bool, true, false, List, [], ◌∷◌, length, Option, Some, None, Result, Ok, Err, refl, sym, ap, ◌∙◌, codes, arith}
-use Rattle.std.specs.Prelude.{nat_lt, nat_le, slice_get, ◌&&◌}
+use Rattle.std.proofs.Common.{◌≡◌, ℕ, zero, suc, ◌<◌, ◌≤◌, Bool, true, List, [], ◌∷◌, length, Option, Some, None, Result, Ok, refl, ap, ◌∙◌, codes, arith}
+use Rattle.std.specs.Prelude.{nat_lt, nat_le, slice_get}
 use Rattle.std.specs.List.{list_all}
 use Rattle.std.proofs.lemmas.Bool.{false≢true}
-use Rattle.ndis_base.specs.Names.{oid_kind_text, status_name_text}
-use Rattle.ndis_base.specs.declared.FilterKind.{FilterKind}
+use Rattle.ndis_base.specs.Names.{oid_kind_text}
 use Rattle.ndis_base.specs.declared.MiniportKind.{MiniportKind}
 use Rattle.ndis_base.specs.declared.MiniportKind.TheVariants as miniport_kind
 use Rattle.ndis_base.specs.declared.OidKind.{OidKind}
 use Rattle.ndis_base.specs.declared.OidKind.TheVariants as oid_kind
-use Rattle.ndis_base.specs.declared.StatusName.{StatusName}
 use Rattle.ndis_base.specs.declared.StatusName.TheVariants as status_name
-use Rattle.journal_types.specs.declared.Setup.{Setup}
 use Rattle.journal_types.specs.declared.Way.{Way}
 use Rattle.journal_types.specs.declared.Way.TheVariants as way
 use Rattle.serde_json.specs.Data.{Data, boolean, string}
@@ -27,12 +24,12 @@ use Rattle.script_types.specs.declared.ScriptCause.{ScriptCause}
 use Rattle.script_types.specs.declared.ScriptCause.TheVariants as cause
 use Rattle.script_forms.specs.declared.words.CallWord.{CallWord}
 use Rattle.script_forms.specs.declared.words.CallWord.TheVariants as word
-use Rattle.script_forms.specs.Call.{word_in, call_members, call_options, linked_or_fault, is_virtual_or_fault, stack_for, pump_in, oid_kind_in, status_in, way_text, relay_in, kind_in, call_in}
+use Rattle.script_forms.specs.Call.{word_in, call_members, call_options, linked_or_fault, is_virtual_or_fault, stack_for, pump_in, oid_kind_in, kind_in, call_in}
 use Rattle.script_forms.specs.Results.{◌>>=◌, or_else}
 use Rattle.script_forms.specs.Stack.{bindings_of, bindings_at}
 use Rattle.script_forms.specs.Values.{members_in, at, number_in, place_in}
-use Rattle.script_writing.specs.Limits.{is_within, is_setup, is_stack, is_virtual, is_cancel, are_frames, may_ask, may_ask_of, is_binding_of, is_call}
-use Rattle.script_writing.specs.Written.{kind_data, call_data, send_data}
+use Rattle.script_writing.specs.Limits.{is_within, is_stack, is_virtual, is_cancel, may_ask, may_ask_of, is_binding_of, is_call}
+use Rattle.script_writing.specs.Written.{kind_data, call_data}
 use Rattle.script_writing.proofs.FiltersRead.{filter_in-filter_data}
 use Rattle.script_writing.proofs.StacksRead.{bindings_at-few}
 use Rattle.script_writing.proofs.ValuesRead.{up_to, le-from_test, lt-from_test, lt-test, number_in-number_data, place_in-number_data, frames_in-frames_data, code_in-code_data, value_in-hex_data, filter_name_in-filter_name_data}

@@ -1,5 +1,5 @@
 -- A filter is read as it was written.
-use Rattle.std.proofs.Common.{◌≡◌, ℕ, Bool, true, false, List, Result, Ok, Err, refl, ap, ◌∙◌}
+use Rattle.std.proofs.Common.{◌≡◌, ℕ, Bool, true, false, List, Result, Ok, refl, ap}
 use Rattle.std.specs.Prelude.{◌&&◌}
 use Rattle.ndis_base.specs.Names.{filter_kind_text}
 use Rattle.ndis_base.specs.declared.FilterKind.{FilterKind}
@@ -9,13 +9,12 @@ use Rattle.journal_types.specs.declared.Setup.{Setup}
 use Rattle.program_types.specs.declared.Rule.{Rule}
 use Rattle.serde_json.specs.Data.{string}
 use Rattle.program_forms.specs.Form.{program_in}
-use Rattle.program_forms.specs.Written.{number_data, program_data, is_program}
+use Rattle.program_forms.specs.Written.{program_data, is_program}
 use Rattle.program_forms.proofs.RoundTrip.{and-left, and-right, program_in-program_data}
 use Rattle.script_types.specs.declared.FilterSetup.{FilterSetup}
 use Rattle.script_types.specs.declared.ScriptCause.{ScriptCause}
 use Rattle.script_forms.specs.Filter.{filter_kind_in, handlers_text, handlers_of_text, handlers_in, program_or_fault, filter_in}
 use Rattle.script_forms.specs.Results.{◌>>=◌}
-use Rattle.script_forms.specs.Values.{number_in}
 use Rattle.script_writing.specs.Limits.{is_within, is_setup}
 use Rattle.script_writing.specs.Written.{filter_data}
 use Rattle.script_writing.proofs.ValuesRead.{number_in-number_data}

@@ -1,6 +1,6 @@
 -- A script is read as it was written.
-use Rattle.std.proofs.Common.{◌≡◌, ℕ, ◌+◌, suc, ◌<◌, ◌≤◌, Bool, true, false, cond, List, [], ◌∷◌, ◌++◌, length, map, Result, Ok, Err, refl, sym, ap, subst, ◌∙◌, arith, eqb-true}
-use Rattle.std.specs.Prelude.{nat_le, not, ◌&&◌, ◌==◌}
+use Rattle.std.proofs.Common.{◌≡◌, ℕ, ◌+◌, suc, ◌<◌, ◌≤◌, Bool, true, List, [], ◌∷◌, ◌++◌, length, map, Result, Ok, Err, sym, ap, ◌∙◌, arith}
+use Rattle.std.specs.Prelude.{nat_le, ◌&&◌, ◌==◌}
 use Rattle.std.specs.List.{list_all}
 use Rattle.std.proofs.lemmas.Bool.Decides.{nat_tests}
 use Rattle.std.proofs.lemmas.List.{length-append, length-map}
@@ -8,7 +8,6 @@ use Rattle.std.proofs.lemmas.List.Folds.{list_all-append}
 use Rattle.serde_json.specs.Data.{Data}
 use Rattle.json_forms.specs.Lists.{read_all}
 use Rattle.json_forms.proofs.Reading.{read_all-written}
-use Rattle.program_forms.specs.Written.{number_data}
 use Rattle.program_forms.proofs.RoundTrip.{and-left, and-right, list_all-at}
 use Rattle.script_types.specs.declared.Call.{Call}
 use Rattle.script_types.specs.declared.Script.{Script}
@@ -20,8 +19,7 @@ use Rattle.script_types.specs.declared.ScriptFault.{ScriptFault}
 use Rattle.script_types.specs.declared.ScriptFault.TheVariants as fault
 use Rattle.script_forms.specs.Results.{◌>>=◌, placed}
 use Rattle.script_forms.specs.Script.{Outline, outline_in, stack_after, call_after, one_rewirer, two_rewirers, script_in}
-use Rattle.script_forms.specs.Values.{number_in, list_in}
-use Rattle.script_writing.specs.Limits.{is_within, is_stack, is_linked, are_linked, are_stacks, is_call, are_calls, is_script}
+use Rattle.script_writing.specs.Limits.{is_within, is_stack, are_linked, are_stacks, is_call, are_calls, is_script}
 use Rattle.script_writing.specs.Written.{stack_data, call_data, script_data}
 use Rattle.script_writing.proofs.CallsRead.{call_in-call_data}
 use Rattle.script_writing.proofs.StacksRead.{stack_in-stack_data, are_linked-at}

@@ -1,6 +1,6 @@
 -- A stack is read as it was written.
-use Rattle.std.proofs.Common.{◌≡◌, ℕ, zero, suc, ◌<◌, ◌≤◌, Bool, true, false, cond, List, [], ◌∷◌, ◌++◌, length, map, Option, Some, None, Result, Ok, Err, refl, sym, ap, subst, ◌∙◌, arith, append_assoc}
-use Rattle.std.specs.Prelude.{nat_lt, nat_le, slice_get, not, ◌&&◌}
+use Rattle.std.proofs.Common.{◌≡◌, ℕ, zero, suc, ◌<◌, ◌≤◌, true, List, [], ◌∷◌, ◌++◌, length, map, Option, Some, None, Result, Ok, Err, refl, sym, ap, subst, arith, append_assoc}
+use Rattle.std.specs.Prelude.{nat_lt, nat_le, slice_get, ◌&&◌}
 use Rattle.std.specs.List.{list_any, list_all}
 use Rattle.std.proofs.lemmas.Bool.{false≢true}
 use Rattle.std.proofs.lemmas.Bool.Decides.{nat_tests}
@@ -23,10 +23,10 @@ use Rattle.script_types.specs.declared.ScriptCause.TheVariants as cause
 use Rattle.script_forms.specs.declared.words.Link.{Link}
 use Rattle.script_forms.specs.Filter.{filter_in}
 use Rattle.script_forms.specs.Results.{◌>>=◌}
-use Rattle.script_forms.specs.Stack.{miniport_kind_in, protocol_kind_in, earlier, mux_or_fault, bindings_of, bindings_at, mux_at, stands_there, free_vlan, link_in, unlinked, linked, miniport_in, binding_in, stack_in}
-use Rattle.script_forms.specs.Values.{number_in, address_in, list_in}
-use Rattle.script_writing.specs.Limits.{is_within, is_filter, is_binding, is_port, is_stack, is_mux, may_stand, may_link, is_unlinked, is_linked, are_linked}
-use Rattle.script_writing.specs.Written.{filter_data, filters_data, plain_port_data, linked_port_data, port_data, miniport_data, binding_data, stack_data}
+use Rattle.script_forms.specs.Stack.{miniport_kind_in, protocol_kind_in, earlier, mux_or_fault, bindings_at, mux_at, stands_there, free_vlan, link_in, unlinked, linked, miniport_in, binding_in, stack_in}
+use Rattle.script_forms.specs.Values.{number_in, address_in}
+use Rattle.script_writing.specs.Limits.{is_within, is_filter, is_binding, is_port, is_stack, is_mux, may_stand, is_linked, are_linked}
+use Rattle.script_writing.specs.Written.{filter_data, plain_port_data, linked_port_data, port_data, binding_data, stack_data}
 use Rattle.script_writing.proofs.FiltersRead.{filter_in-filter_data}
 use Rattle.script_writing.proofs.ValuesRead.{at_most, up_to, le-from_test, lt-from_test, unless, number_in-number_data, list_in-written, read_all-each, address_in-hex_data}
 

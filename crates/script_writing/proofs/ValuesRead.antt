@@ -1,5 +1,5 @@
 -- The values of a script's members are read as they were written.
-use Rattle.std.proofs.Common.{◌≡◌, ℕ, zero, suc, ◌+◌, ◌*◌, ◌/◌, ◌%◌, ◌^◌, ◌<◌, ◌≤◌, Bool, true, false, cond, List, [], ◌∷◌, ◌++◌, length, map, Result, Ok, Err, refl, sym, ap, ◌∙◌, arith, decimal}
+use Rattle.std.proofs.Common.{◌≡◌, ℕ, zero, suc, ◌^◌, ◌<◌, ◌≤◌, Bool, true, false, cond, List, [], ◌∷◌, length, map, Result, Ok, Err, refl, sym, ap, ◌∙◌, arith, decimal}
 use Rattle.std.specs.Prelude.{nat_lt, nat_le, slice_index, not, ◌&&◌, ◌==◌}
 use Rattle.std.proofs.lemmas.Bool.{false≢true}
 use Rattle.std.specs.Int.{to_be_bytes, from_be_bytes, w32}
@@ -13,7 +13,7 @@ use Rattle.std.proofs.lemmas.Nat.{from_be_bytes-to_be_bytes_4}
 use Rattle.hex.specs.Hex.{IsBytes}
 use Rattle.hex.proofs.HexLemmas.{decode_of-encode_lower}
 use Rattle.serde_json.specs.Data.{Data}
-use Rattle.json_forms.specs.Lists.{list_of, read_all}
+use Rattle.json_forms.specs.Lists.{read_all}
 use Rattle.json_forms.proofs.Reading.{list_of-items_of, read_all-written}
 use Rattle.program_forms.specs.Written.{number_data, hex_data, is_byte, is_address}
 use Rattle.program_forms.proofs.RoundTrip.{and-left, and-right, list_all-at}
@@ -21,7 +21,7 @@ use Rattle.script_types.specs.declared.ScriptCause.{ScriptCause}
 use Rattle.script_types.specs.declared.ScriptCause.TheVariants as cause
 use Rattle.script_forms.proofs.Digits.{numerals}
 use Rattle.script_forms.specs.Results.{◌>>=◌}
-use Rattle.script_forms.specs.Values.{ranged, number_in, below, place_in, counted, list_in, hex_or_fault, hex_in, sized, address_in, code_in, value_in, frame_in, frames_in, filter_of_digits, filter_of_text, filter_name_in}
+use Rattle.script_forms.specs.Values.{number_in, below, place_in, counted, list_in, hex_or_fault, hex_in, sized, address_in, code_in, value_in, frame_in, frames_in, filter_of_digits, filter_of_text, filter_name_in}
 use Rattle.script_writing.specs.Limits.{is_within, is_frame, are_frames, is_value}
 use Rattle.script_writing.specs.Written.{list_data, frames_data, code_data, filter_name_data}
 
