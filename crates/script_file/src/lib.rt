@@ -1,4 +1,4 @@
-//! Scripts read from their texts.
+//! Scripts read from their texts, and written.
 #![tactic(auto)]
 
 pub mod whole;
@@ -8,3 +8,4 @@ pub use script_types::{
     Call, CallKind, Calls, FilterSetup, FilterSetups, MiniportSetup, Script, ScriptCause,
     ScriptFault, ScriptPlace, StackSetup, Stacks,
 };
+pub use script_writing::write_script;

@@ -1,0 +1,9 @@
+//! Scripts written as their texts.
+#![tactic(auto)]
+
+mod calls;
+mod filters;
+mod stacks;
+mod whole;
+
+pub use crate::whole::write_script;
