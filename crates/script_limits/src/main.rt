@@ -1,5 +1,5 @@
 //! Reads scripts that differ in one number, at both ends of its range and one past each, and scripts
-//! with frames of several lengths, and prints what each reading answers.
+//! with frames and texts of several lengths, and prints what each reading answers.
 #![tactic(auto)]
 
 mod table;
@@ -17,6 +17,8 @@ fn name_of_answer(alloc: Global, text: &str) -> &'static str {
             ScriptCause::FrameLength => "FrameLength",
             ScriptCause::TooMany => "TooMany",
             ScriptCause::BadLink => "BadLink",
+            ScriptCause::TooLong => "TooLong",
+            ScriptCause::NotJson => "NotJson",
             _ => "another fault",
         },
     }
@@ -43,13 +45,35 @@ fn line_of(alloc: Global, limit: &Limit) -> std::result::Result<String, AllocErr
 }
 
 // A script that sends one frame of so many bytes.
-fn frame_answer(alloc: Global, bytes: usize) -> std::result::Result<&'static str, AllocError> {
+fn text_of_frame(alloc: Global, bytes: usize) -> std::result::Result<String, AllocError> {
     let mut digits = String::new(alloc);
     for _ in 0..bytes {
         digits.push_str("5a")?;
     }
     let before = table::SEND;
-    let text = format!(in alloc; "{before}\"cancel\":1,\"frames\":[\"{digits}\"]}}]}}")?;
+    format!(in alloc; "{before}\"cancel\":1,\"frames\":[\"{digits}\"]}}]}}")
+}
+
+fn frame_answer(alloc: Global, bytes: usize) -> std::result::Result<&'static str, AllocError> {
+    let text = text_of_frame(alloc, bytes)?;
+    Ok(name_of_answer(alloc, text.as_str()))
+}
+
+// A script with spaces behind it, of so many bytes in all.
+fn length_answer(alloc: Global, bytes: usize) -> std::result::Result<&'static str, AllocError> {
+    let mut text = text_of_frame(alloc, 14)?;
+    for _ in text.len()..bytes {
+        text.push_str(" ")?;
+    }
+    Ok(name_of_answer(alloc, text.as_str()))
+}
+
+// A script without its last byte.
+fn cut_answer(alloc: Global) -> std::result::Result<&'static str, AllocError> {
+    let mut text = text_of_frame(alloc, 14)?;
+    if text.pop().is_none() {
+        return Ok("no text");
+    }
     Ok(name_of_answer(alloc, text.as_str()))
 }
 
@@ -63,5 +87,13 @@ fn main(rt: HostRuntime) -> anyhow::Result<()> {
         let answer = frame_answer(alloc, bytes)?;
         println!(rt; "frame of {bytes} bytes: {answer}")?;
     }
+    for bytes in [4194304usize, 4194305] {
+        let answer = length_answer(alloc, bytes)?;
+        println!(rt; "text of {bytes} bytes: {answer}")?;
+    }
+    let answer = cut_answer(alloc)?;
+    println!(rt; "text without its last byte: {answer}")?;
+    let answer = name_of_answer(alloc, "");
+    println!(rt; "no text: {answer}")?;
     Ok(())
 }
