@@ -1,0 +1,9 @@
+pub mod Rows
+pub mod Quiet
+pub mod Takes
+pub mod Floors
+pub mod Changes
+pub mod Phases
+pub mod Halts
+pub mod Rewires
+pub mod Events
