@@ -1,0 +1,51 @@
+-- How much each event may add to the work.
+use Rattle.std.specs.Prelude.{◌≡◌, ℕ, ◌+◌, ◌*◌, ◌≤◌, Bool, true, false, List}
+use Rattle.journal_types.specs.declared.Event.{Event}
+use Rattle.journal_types.specs.declared.Event.TheVariants as event
+use Rattle.journal_types.specs.declared.StackHead.{StackHead}
+use Rattle.journal_types.specs.declared.Turn.{Turn}
+use Rattle.stack_rules.specs.Net.{Net, after_turn, seen}
+use Rattle.stack_rules.specs.Sound.{Next, Sound}
+use Rattle.stack_rules.specs.Work.{bottom, echo_count, work}
+
+-- a send goes down, and comes back done
+abbrev pub send_room : Net → ℕ
+send_room net = 3 * bottom net
+
+-- a receive goes up, is sent by each echo binding, and comes back
+abbrev pub receive_room : Net → ℕ
+receive_room net = 3 * bottom net * (1 + echo_count net)
+
+-- kinds of events
+abbrev pub is_send : Event → Bool
+is_send (event.Send binding cancel frames) = true
+is_send (event.CrossPut stack message vlan frames) = true
+is_send _ = false
+
+abbrev pub is_indication : Event → Bool
+is_indication (event.Indicate frames) = true
+is_indication (event.CrossPutUp stack message frames) = true
+is_indication _ = false
+
+abbrev pub is_status : Event → Bool
+is_status (event.Status name) = true
+is_status _ = false
+
+abbrev pub is_ask : Event → Bool
+is_ask (event.Ask binding kind code value) = true
+is_ask _ = false
+
+abbrev pub is_pause : Event → Bool
+is_pause event.BeginPause = true
+is_pause event.PauseNext = true
+is_pause _ = false
+
+abbrev pub is_take : Event → Bool
+is_take event.CrossTake = true
+is_take _ = false
+
+-- After every sound journal each turn with such an event adds at most so much.
+abbrev pub EachAdds : (Event → Bool) → (Net → ℕ) → Type 0
+EachAdds test room =
+    (head : StackHead) (turns : List Turn) (turn : Turn) → Sound head turns → Next (seen head turns) turn → test turn.event ≡ true →
+    work (after_turn (seen head turns) turn) ≤ work (seen head turns) + room (seen head turns)

@@ -1,0 +1,30 @@
+//! How much each event of a sound journal may leave to do. There is no code here: each function's
+//! `ensures` is a law, proved once for all journals.
+#![tactic(auto)]
+
+ghost use Rattle.std.specs.Prelude.{◌*◌, ◌-◌};
+ghost use Rattle.stack_rules.specs.Work.{bottom};
+ghost use Rattle.work_laws.specs.Bounds.{is_ask, is_indication, is_pause, is_send, is_status, is_take, receive_room, send_room, EachAdds};
+
+/// A send, also one from another stack, adds at most three times the miniport's position to the work.
+pub fn sends_add_little()
+    ensures { EachAdds is_send send_room }
+{}
+
+/// A list that the miniport indicates and keeps its hold of adds at most three times the miniport's
+/// position, and as much again for each echo binding while the stack runs.
+pub fn indications_add_little()
+    ensures { EachAdds is_indication receive_room }
+{}
+
+/// A status adds at most the miniport's position, a request less than twice that.
+pub fn items_add_little()
+    ensures status { EachAdds is_status (λ net. bottom net) }
+    ensures ask { EachAdds is_ask (λ net. 2 * bottom net - 1) }
+{}
+
+/// A pause adds nothing to the work, and neither does a list that is taken to another stack.
+pub fn pauses_add_nothing()
+    ensures pause { EachAdds is_pause (λ net. 0) }
+    ensures take { EachAdds is_take (λ net. 0) }
+{}
