@@ -47,7 +47,7 @@ stay_retouched : (m : ℕ) (f : LiveList → LiveList) → ((l : LiveList) → (
 stay_retouched m f same ls n h = retouched_same n m f same ls ∙ h
 
 -- a list that is moved to the end
-none_out : (m : ℕ) (ls : List LiveList) → list_of m ls ≡ None → others m ls ≡ ls
+pub none_out : (m : ℕ) (ls : List LiveList) → list_of m ls ≡ None → others m ls ≡ ls
 none_out m [] h = refl
 none_out m (x ∷ ls) h =
     let cases : (b : Bool) → cond b (Some x) (list_of m ls) ≡ None → cond (not b) (x ∷ others m ls) (others m ls) ≡ x ∷ ls = elim [
@@ -59,7 +59,7 @@ none_out m (x ∷ ls) h =
 some_same : (x l : LiveList) → Some x ≡ Some l → x ≡ l
 some_same x l f = cc
 
-taken_any : (n m : ℕ) (ls : List LiveList) (l : LiveList) → IsApart ls → list_of m ls ≡ Some l → any_clone n ls ≡ true → (any_clone n (others m ls) || is_clone_of n l.origin) ≡ true
+pub taken_any : (n m : ℕ) (ls : List LiveList) (l : LiveList) → IsApart ls → list_of m ls ≡ Some l → any_clone n ls ≡ true → (any_clone n (others m ls) || is_clone_of n l.origin) ≡ true
 taken_any n m [] l a f h = cc
 taken_any n m (x ∷ ls) l a f h =
     let cases : (b : Bool) → (x.list.0 == m) ≡ b → cond b (Some x) (list_of m ls) ≡ Some l → (any_clone n (cond (not b) (x ∷ others m ls) (others m ls)) || is_clone_of n l.origin) ≡ true = elim [

@@ -4,3 +4,8 @@ pub mod Clones
 pub mod Ways
 pub mod Adds
 pub mod Additions
+pub mod Hands
+pub mod Lowers
+pub mod Placed
+pub mod Filters
+pub mod Deliveries

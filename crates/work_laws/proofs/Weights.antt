@@ -74,7 +74,7 @@ lighter false true c k h = rw (h refl) (omega arith)
 lighter false false true k h = omega arith
 lighter false false false k h = omega arith
 
-weight_less : (net : Net) (cloned more : ℕ → Bool) → Stay cloned more → (t : Thing) → weight net more t ≤ weight net cloned t
+pub weight_less : (net : Net) (cloned more : ℕ → Bool) → Stay cloned more → (t : Thing) → weight net more t ≤ weight net cloned t
 weight_less net cloned more s (thing.List l) = lighter (is_crossed l.crossed) (cloned l.list.0) (more l.list.0) (list_work net l l.stand) (s l.list.0)
 weight_less net cloned more s (thing.Status a) = omega arith
 weight_less net cloned more s (thing.Answer a) = omega arith
@@ -98,10 +98,10 @@ cond_none false = omega arith
 
 module _ (net : Net) (cloned : ℕ → Bool) where
   -- a list that was put on its way weighs what its way and its target say; one that is kept what its keeper says
-  abbrev ChangeWeighs : (Option LiveList → Option LiveList) → ℕ → Type 0
+  abbrev pub ChangeWeighs : (Option LiveList → Option LiveList) → ℕ → Type 0
   ChangeWeighs change k = (o : Option LiveList) (l : LiveList) → change o ≡ Some l → weight net cloned (thing.List l) ≤ k
 
-  passed_weighs : (way : PassWay) (to : Target) → ChangeWeighs (passed_to way to) (passed_work net way to)
+  pub passed_weighs : (way : PassWay) (to : Target) → ChangeWeighs (passed_to way to) (passed_work net way to)
   passed_weighs way to None l e = cc
   passed_weighs way to (Some x) l e =
       let same = passed_same net x way to in
