@@ -9,3 +9,4 @@ pub mod Lowers
 pub mod Placed
 pub mod Filters
 pub mod Deliveries
+pub mod Moves
