@@ -155,13 +155,13 @@ status_adds net name h =
     omega (arith, near, more, most, least))
 
 -- a request that is new gives no answer a place
-new_holder : (net : Net) (n : ℕ) (rs : List Request) (r : Request) → r.at ≡ at.Entry → holder_position net (request_of n (rs ++ r ∷ [])) ≤ holder_position net (request_of n rs)
-new_holder net n [] r e = elim (r.request.0 == n) as (λ b. holder_position net (cond b (Some r) None) ≤ 0) [ true ↦ rw e (omega arith) | false ↦ omega arith ]
+pub new_holder : (net : Net) (n : ℕ) (rs : List Request) (r : Request) → given_position net r.at ≡ 0 → holder_position net (request_of n (rs ++ r ∷ [])) ≤ holder_position net (request_of n rs)
+new_holder net n [] r e = elim (r.request.0 == n) as (λ b. holder_position net (cond b (Some r) None) ≤ 0) [ true ↦ omega (arith, e) | false ↦ omega arith ]
 new_holder net n (q ∷ rs) r e =
     let rest = new_holder net n rs r e in
     elim (q.request.0 == n) as (λ b. holder_position net (cond b (Some q) (request_of n (rs ++ r ∷ []))) ≤ holder_position net (cond b (Some q) (request_of n rs))) [ true ↦ omega arith | false ↦ rest ]
 
-asked_lighter : (net : Net) (new : Request) → new.at ≡ at.Entry → (t : Thing) → weight (record net { requests = net.requests ++ new ∷ [] }) (has_clone net) t ≤ weight net (has_clone net) t
+asked_lighter : (net : Net) (new : Request) → given_position net new.at ≡ 0 → (t : Thing) → weight (record net { requests = net.requests ++ new ∷ [] }) (has_clone net) t ≤ weight net (has_clone net) t
 asked_lighter net new e (thing.List l) = omega arith
 asked_lighter net new e (thing.Status s) = omega arith
 asked_lighter net new e (thing.Answer a) = new_holder net a.parent.0 net.requests new e

@@ -10,3 +10,4 @@ pub mod Placed
 pub mod Filters
 pub mod Deliveries
 pub mod Moves
+pub mod Items

@@ -55,7 +55,7 @@ in_above f (g ∷ fs) h =
     ] in
     cases (g == f) h
 
-drop_above : (f i : ℕ) (fs : List ℕ) → IsDistinct fs → is_in f (drop i fs) ≡ true → i ≤ above f fs
+pub drop_above : (f i : ℕ) (fs : List ℕ) → IsDistinct fs → is_in f (drop i fs) ≡ true → i ≤ above f fs
 drop_above f zero fs d h = omega arith
 drop_above f (suc i) [] d h = cc
 drop_above f (suc i) (g ∷ fs) d h =
