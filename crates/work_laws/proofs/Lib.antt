@@ -11,3 +11,4 @@ pub mod Filters
 pub mod Deliveries
 pub mod Moves
 pub mod Items
+pub mod Givings
