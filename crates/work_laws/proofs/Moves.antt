@@ -187,7 +187,7 @@ module _ (net : Net) (l : LiveList) (h : IsFree net l) where
         found None f = let trade = home_alone net l l.owner status o h e f in omega (arith, trade, some)
         found (Some x) f = release o x e f (parent o x e f) w
 
-same_is : (m n : ModuleId) → same_module m n ≡ true → m ≡ n
+pub same_is : (m n : ModuleId) → same_module m n ≡ true → m ≡ n
 same_is Miniport Miniport e = refl
 same_is Miniport (Filter g) e = cc
 same_is Miniport (Binding c) e = cc
