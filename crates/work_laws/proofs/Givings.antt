@@ -35,19 +35,8 @@ use Rattle.work_laws.proofs.Adds.{new_holder}
 use Rattle.work_laws.proofs.Moves.{same_is}
 use Rattle.std.proofs.Common.{add-one}
 use Rattle.work_laws.proofs.Filters.{Lowers}
-use Rattle.work_laws.proofs.Items.{place_position, IsGiven, IsBelow, IsAsked, held_at, done_load}
-
--- a fact of each answer
-abbrev pub EachAnswer : (Answered → Type 0) → List Thing → Type 0
-EachAnswer P [] = Unit {0}
-EachAnswer P (thing.Answer a ∷ ts) = P a × EachAnswer P ts
-EachAnswer P (thing.List l ∷ ts) = EachAnswer P ts
-EachAnswer P (thing.Status s ∷ ts) = EachAnswer P ts
-
--- a fact of each request
-abbrev pub EachRequest : (Request → Type 0) → List Request → Type 0
-EachRequest P [] = Unit {0}
-EachRequest P (r ∷ rs) = P r × EachRequest P rs
+use Rattle.work_laws.specs.Kept.{place_position, IsGiven, IsBelow, IsAsked, EachAnswer, EachRequest}
+use Rattle.work_laws.proofs.Items.{held_at, done_load}
 
 -- two sums that differ only at answers
 answers_less : (v w : Thing → ℕ) (P : Answered → Type 0) → ((l : LiveList) → v (thing.List l) ≤ w (thing.List l)) → ((s : StatusAway) → v (thing.Status s) ≤ w (thing.Status s)) → ((a : Answered) → P a → v (thing.Answer a) ≤ w (thing.Answer a)) →

@@ -40,6 +40,7 @@ use Rattle.work_laws.proofs.Weights.{Stay, weight, asked_work, load, work_least,
 use Rattle.work_laws.proofs.Clones.{AreStaying, clones_rows}
 use Rattle.work_laws.proofs.Ways.{status_near, in_above}
 use Rattle.work_laws.proofs.Adds.{load_status}
+use Rattle.work_laws.specs.Kept.{GoesUp, place_position, IsGiven, IsBelow, IsAsked}
 use Rattle.work_laws.proofs.Filters.{Lowers}
 
 -- what a test leaves out is gone from the sum
@@ -95,11 +96,6 @@ all_staying number b (s ∷ ss) = (refl, all_staying number (b + 1) ss)
 all_issue : (net : Net) (number : StatusNo) (b : ℕ) (ss : List ModuleState) → IssueNext net (seen_by_all number b ss)
 all_issue net number b [] = tt
 all_issue net number b (s ∷ ss) = (tt, all_issue (after net (row.Seen number (Binding b))) number (b + 1) ss)
-
--- a status goes to a filter or to the bindings
-abbrev pub GoesUp : Target → Type 0
-GoesUp Bindings = Unit {0}
-GoesUp (Module m) = is_binding m ≡ false
 
 low : (order : List ℕ) (m : ModuleId) → is_binding m ≡ false → 1 ≤ position order m
 low order Miniport e = omega arith
@@ -169,28 +165,6 @@ done_lighter : (net : Net) (cloned : ℕ → Bool) (m : ℕ) (t : Thing) → wei
 done_lighter net cloned m (thing.List l) = omega arith
 done_lighter net cloned m (thing.Status s) = omega arith
 done_lighter net cloned m (thing.Answer a) = done_less net a.parent.0 m net.requests
-
--- the position that a request waits at or is given to
-abbrev pub place_position : Net → RequestAt → ℕ
-place_position net at.Entry = 0
-place_position net (at.Waiting m) = position net.modules.order m
-place_position net (at.Given m) = position net.modules.order m
-
--- the request is given to a filter of the order
-pub record IsGiven (net : Net) (n : ℕ) : Type 0 where
-  pub filter : ℕ
-  pub request : Request
-  pub found : request_of n net.requests ≡ Some request
-  pub at : request.at ≡ at.Given (Filter filter)
-  pub there : is_in filter net.modules.order ≡ true
-
--- a clone waits below the filter that its parent was given to
-pub record IsBelow (net : Net) (r : Request) (n : ℕ) : Type 0 where
-  pub parent : IsGiven net n
-  pub below : position net.modules.order (Filter parent.filter) < place_position net r.at
-
-abbrev pub IsAsked : Net → Request → Type 0
-IsAsked net r = (g : OidNo) → r.parent ≡ Some g → IsBelow net r g.0
 
 held : (net : Net) (n f : ℕ) (r : Request) (o : Option Request) → o ≡ Some r → r.at ≡ at.Given (Filter f) → holder_position net o ≡ position net.modules.order (Filter f)
 held net n f r None e a = cc

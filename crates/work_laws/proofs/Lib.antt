@@ -6,9 +6,9 @@ pub mod Adds
 pub mod Additions
 pub mod Hands
 pub mod Lowers
-pub mod Placed
 pub mod Filters
 pub mod Deliveries
 pub mod Moves
 pub mod Items
 pub mod Givings
+pub mod Pumps

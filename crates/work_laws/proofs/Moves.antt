@@ -35,14 +35,9 @@ use Rattle.pause_laws.proofs.Places.{position_most}
 use Rattle.work_laws.proofs.Weights.{passed_work}
 use Rattle.work_laws.proofs.Ways.{target_most, in_above, down_far, up_near, done_near, back_far}
 use Rattle.work_laws.proofs.Lowers.{IsFree, back_trades, give_trades, give_back_trades, keep_trades, home_only, home_alone, home_releases}
-use Rattle.work_laws.proofs.Placed.{StopsBelow, StopsAbove, Stands, IsPlaced, IsOriginal, HasOriginal}
+use Rattle.work_laws.specs.Kept.{StopsBelow, StopsAbove, Stands, IsPlaced, IsOriginal, HasOriginal, IsOrdered}
 use Rattle.work_laws.proofs.Filters.{Lowers, onward_down, onward_up, homeward_done, homeward_back, AllLess, filter_lowers}
 use Rattle.work_laws.proofs.Deliveries.{delivery_lowers}
-
--- each filter of the order is attached, and none is twice in it
-pub record IsOrdered (ms : Modules) : Type 0 where
-  pub distinct : IsDistinct ms.order
-  pub attached : (f : ℕ) → is_in f ms.order ≡ true → (a : Attached) × (attached f ms.filters ≡ Some a) × (a.filter ≡ f)
 
 kept_down : (net : Net) (d : Bool) (m : ModuleId) → d ≡ true → kept_work net d m ≤ 2 * (bottom net - position net.modules.order m) + bottom net + 1
 kept_down net true m e = omega arith
