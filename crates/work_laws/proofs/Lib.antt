@@ -12,3 +12,5 @@ pub mod Moves
 pub mod Items
 pub mod Givings
 pub mod Pumps
+pub mod Drains
+pub mod Movements

@@ -4,7 +4,13 @@ use Rattle.journal_types.specs.declared.Event.{Event}
 use Rattle.journal_types.specs.declared.Event.TheVariants as event
 use Rattle.journal_types.specs.declared.StackHead.{StackHead}
 use Rattle.journal_types.specs.declared.Turn.{Turn}
+use Rattle.std.specs.List.{list_any}
+use Rattle.journal_types.specs.declared.Reply.TheVariants as reply
+use Rattle.journal_types.specs.declared.Row.{Row}
+use Rattle.journal_types.specs.declared.Row.TheVariants as row
+use Rattle.stack_rules.specs.Tests.{is_miniport}
 use Rattle.stack_rules.specs.Net.{Net, after_turn, seen}
+use Rattle.work_laws.specs.Kept.{IsInPlace}
 use Rattle.stack_rules.specs.Sound.{Next, Sound}
 use Rattle.stack_rules.specs.Work.{bottom, echo_count, work}
 
@@ -49,3 +55,22 @@ abbrev pub EachAdds : (Event → Bool) → (Net → ℕ) → Type 0
 EachAdds test room =
     (head : StackHead) (turns : List Turn) (turn : Turn) → Sound head turns → Next (seen head turns) turn → test turn.event ≡ true →
     work (after_turn (seen head turns) turn) ≤ work (seen head turns) + room (seen head turns)
+
+-- the miniport issues a list: it indicates what it transmits
+abbrev pub is_originated : Row → Bool
+is_originated (row.Issue list owner config direction cancel origin frames) = is_miniport owner
+is_originated _ = false
+
+abbrev pub originates : List Row → Bool
+originates rows = list_any is_originated rows
+
+-- Where everything stands in its place, each such turn that is answered Moved, and in which the miniport
+-- originates nothing, lowers the work.
+abbrev pub EachLowers : Event → Type 0
+EachLowers e =
+    (net : Net) (turn : Turn) → IsInPlace net → Next net turn → turn.event ≡ e → turn.reply ≡ reply.Moved → originates turn.rows ≡ false →
+    work (after_turn net turn) + 1 ≤ work net
+
+abbrev pub EachPumpLowers : Type 0
+EachPumpLowers =
+    (net : Net) (turn : Turn) → IsInPlace net → Next net turn → turn.event ≡ event.Pump → turn.reply ≡ reply.Moved → work (after_turn net turn) + 1 ≤ work net

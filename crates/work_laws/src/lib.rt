@@ -4,7 +4,19 @@
 
 ghost use Rattle.std.specs.Prelude.{◌*◌, ◌-◌};
 ghost use Rattle.stack_rules.specs.Work.{bottom};
-ghost use Rattle.work_laws.specs.Bounds.{is_ask, is_indication, is_pause, is_send, is_status, is_take, receive_room, send_room, EachAdds};
+ghost use Rattle.journal_types.specs.declared.Event.TheVariants.{Drain};
+ghost use Rattle.work_laws.specs.Bounds.{is_ask, is_indication, is_pause, is_send, is_status, is_take, receive_room, send_room, EachAdds, EachLowers, EachPumpLowers};
+
+/// Where everything stands in its place, each pump that is answered Moved lowers the work.
+pub fn pumps_lower_work()
+    ensures { EachPumpLowers }
+{}
+
+/// Where everything stands in its place, each drain that is answered Moved lowers the work, but one in
+/// which the miniport indicates what it transmits.
+pub fn drains_lower_work()
+    ensures { EachLowers Drain }
+{}
 
 /// A send, also one from another stack, adds at most three times the miniport's position to the work.
 pub fn sends_add_little()
