@@ -117,7 +117,7 @@ apart_less test [] h = tt
 apart_less test (l ∷ ls) h =
     elim (test l) as (λ b. IsApart (cond b (l ∷ filter test ls) (filter test ls))) [ true ↦ (live_less l.list.0 test ls h.0, apart_less test ls h.1) | false ↦ apart_less test ls h.1 ]
 
-passing : (P : LiveList → Type 0) (test : LiveList → Bool) (ls : List LiveList) → Each P ls → Each (λ l. P l × (test l ≡ true)) (filter test ls)
+pub passing : (P : LiveList → Type 0) (test : LiveList → Bool) (ls : List LiveList) → Each P ls → Each (λ l. P l × (test l ≡ true)) (filter test ls)
 passing P test [] h = tt
 passing P test (l ∷ ls) h = cases (test l) refl (passing P test ls h.1)
   where
@@ -131,7 +131,7 @@ pub record IsReady (net : Net) (m : ModuleId) (l : LiveList) : Type 0 where
   pub kept : l.stand ≡ stand.Kept m
   pub free : waits net l ≡ false
 
-kept_is : (m : ModuleId) (s : Stand) → is_kept_by m s ≡ true → s ≡ stand.Kept m
+pub kept_is : (m : ModuleId) (s : Stand) → is_kept_by m s ≡ true → s ≡ stand.Kept m
 kept_is m stand.Unplaced e = cc
 kept_is m (stand.Kept k) e = ap (λ i. stand.Kept i) (same_is k m e)
 kept_is m (stand.Passed way to) e = cc
@@ -140,7 +140,7 @@ off : (b : Bool) → not b ≡ true → b ≡ false
 off true e = sym e
 off false e = refl
 
-Each-map : (P Q : LiveList → Type 0) → ((l : LiveList) → P l → Q l) → (ls : List LiveList) → Each P ls → Each Q ls
+pub Each-map : (P Q : LiveList → Type 0) → ((l : LiveList) → P l → Q l) → (ls : List LiveList) → Each P ls → Each Q ls
 Each-map P Q f [] h = tt
 Each-map P Q f (l ∷ ls) h = (f l h.0, Each-map P Q f ls h.1)
 
@@ -160,7 +160,7 @@ batch_good net pass (l ∷ ls) h a p =
     inr (passes_lower net pass l ls h (Each-map _ (Found net) (λ k q. q.0) (l ∷ ls) p) a (Each-map _ (PassesLess net pass) (λ k q. q.1) (l ∷ ls) p))
 
 -- a binding returns a receive, a hold filter passes a list on
-returned_less : (net : Net) (b : ℕ) (l : LiveList) → IsReady net (Binding b) l → PassesLess net (returned_by net) l
+pub returned_less : (net : Net) (b : ℕ) (l : LiveList) → IsReady net (Binding b) l → PassesLess net (returned_by net) l
 returned_less net b l r =
     let up : is_down l.direction ≡ false = subst (Stands net.modules l) r.kept r.fine.placed.stands in
     let least = back_least net.modules 0 l.owner (r.fine.placed.up up) in
@@ -196,14 +196,14 @@ passed_less net f l o r = cases (is_down l.direction) refl
         let weighs : kept_work net (is_down l.direction) (Filter f) ≡ up_work net i = ap (λ d. kept_work net d (Filter f)) d in
         record { passed_way = way.Up; passed_to = next_up net.modules i; row_is = onward_up net.modules l.list l.direction i d; less = omega (arith, near, full, old, weighs) }
 
-returns_good : (net : Net) (b : ℕ) → IsInPlace net → (returns_all net b ≡ []) ⊎ Lowers net (returns_all net b)
+pub returns_good : (net : Net) (b : ℕ) → IsInPlace net → (returns_all net b ≡ []) ⊎ Lowers net (returns_all net b)
 returns_good net b h =
     by_test (λ rows. (rows ≡ []) ⊎ Lowers net rows) (is_retain (kind_of_binding net.head b)) _ _
     (λ _. batch_good net (returned_by net) (ready_lists net (Binding b)) h.numbered (ready_apart net (Binding b) h)
     (Each-map (IsReady net (Binding b)) _ (λ l r. (r.fine.found, returned_less net b l r)) (ready_lists net (Binding b)) (all_ready net (Binding b) h)))
     (λ _. inl refl)
 
-passes_good : (net : Net) (f : ℕ) → IsInPlace net → (passes_all net f ≡ []) ⊎ Lowers net (passes_all net f)
+pub passes_good : (net : Net) (f : ℕ) → IsInPlace net → (passes_all net f ≡ []) ⊎ Lowers net (passes_all net f)
 passes_good net f h =
     by_test (λ rows. (rows ≡ []) ⊎ Lowers net rows) (holds_lists net.modules f) _ _
     (λ _. batch_good net (passed_by net f) (ready_lists net (Filter f)) h.numbered (ready_apart net (Filter f) h)
@@ -211,14 +211,14 @@ passes_good net f h =
     (λ _. inl refl)
 
 -- a send at the miniport goes homewards
-ring_work : (net : Net) (l : LiveList) → IsReady net Miniport l → (is_down l.direction ≡ true) × (list_work net l l.stand ≡ bottom net + 1)
+pub ring_work : (net : Net) (l : LiveList) → IsReady net Miniport l → (is_down l.direction ≡ true) × (list_work net l l.stand ≡ bottom net + 1)
 ring_work net l r =
     let down : is_down l.direction ≡ true = subst (Stands net.modules l) r.kept r.fine.placed.stands in
     let old : list_work net l l.stand ≡ kept_work net (is_down l.direction) Miniport = ap (list_work net l) r.kept in
     let weighs : kept_work net (is_down l.direction) Miniport ≡ 2 * (bottom net - bottom net) + bottom net + 1 = ap (λ d. kept_work net d Miniport) down in
     (down, omega (arith, old, weighs))
 
-turned_lowers : (net : Net) (l : LiveList) → IsNumbered net → IsReady net Miniport l → Lowers net (turned_back net.modules l Miniport Paused)
+pub turned_lowers : (net : Net) (l : LiveList) → IsNumbered net → IsReady net Miniport l → Lowers net (turned_back net.modules l Miniport Paused)
 turned_lowers net l n r =
     let i : ℕ = position net.modules.order Miniport in
     let ring = ring_work net l r in
@@ -228,7 +228,7 @@ turned_lowers net l n r =
     let old = ring.1 in
     subst (λ (r : Row). Lowers net (row.TurnBack l.list Miniport Paused ∷ r ∷ [])) (sym (homeward_done net.modules l.list l.owner l.direction i Paused ring.0)) (omega (arith, above, near, trade, old))
 
-wired_lowers : (net : Net) (l : LiveList) → IsNumbered net → IsReady net Miniport l → Lowers net (row.Wire l.list l.frames ∷ homeward net.modules l (position net.modules.order Miniport) Success ∷ [])
+pub wired_lowers : (net : Net) (l : LiveList) → IsNumbered net → IsReady net Miniport l → Lowers net (row.Wire l.list l.frames ∷ homeward net.modules l (position net.modules.order Miniport) Success ∷ [])
 wired_lowers net l n r =
     let i : ℕ = position net.modules.order Miniport in
     let ring = ring_work net l r in

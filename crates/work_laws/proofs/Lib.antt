@@ -14,3 +14,4 @@ pub mod Givings
 pub mod Pumps
 pub mod Drains
 pub mod Movements
+pub mod Others

@@ -26,6 +26,7 @@ use Rattle.rule_basics.specs.Live.{is_live, IsApart, Each}
 use Rattle.home_laws.proofs.Known.{OfThing, thing_found}
 use Rattle.work_laws.specs.Kept.{IsPlaced, IsOriginal, HasOriginal, IsOrdered, GoesUp, IsGiven, IsAsked, EachAnswer, EachRequest, EachStatus, EachApart, IsInPlace}
 use Rattle.work_laws.proofs.Clones.{any_clone}
+use Rattle.work_laws.proofs.Adds.{OutcomeAdds, adds_none}
 use Rattle.work_laws.proofs.Hands.{Found}
 use Rattle.work_laws.proofs.Lowers.{IsFree}
 use Rattle.work_laws.proofs.Filters.{Lowers}
@@ -74,7 +75,11 @@ passed_kept stand.Unplaced m q e = cc
 passed_kept (stand.Kept k) m q e = cc
 passed_kept (stand.Passed way to) m q e = cc
 
-no_clone : (net : Net) (l : LiveList) (ys : List LiveList) → Found net l → is_passed l.stand ≡ true → Each (HasOriginal net) ys → any_clone l.list.0 ys ≡ false
+-- no filter keeps the list
+abbrev pub KeptByNoFilter : LiveList → Type 0
+KeptByNoFilter l = (f : ℕ) → l.stand ≡ stand.Kept (Filter f) → ⊥
+
+pub no_clone : (net : Net) (l : LiveList) (ys : List LiveList) → Found net l → KeptByNoFilter l → Each (HasOriginal net) ys → any_clone l.list.0 ys ≡ false
 no_clone net l [] f q h = refl
 no_clone net l (y ∷ ys) f q h = neither (is_clone_of l.list.0 y.origin) (any_clone l.list.0 ys) (here y.origin refl) (no_clone net l ys f q h.1)
   where
@@ -91,7 +96,7 @@ no_clone net l (y ∷ ys) f q h = neither (is_clone_of l.list.0 y.origin) (any_c
         cases true t =
             let same : o.0 ≡ l.list.0 = grind (arith, nat_tests) in
             let original : IsOriginal net.modules y l = h.0 o l e (ap (λ n. list_of n (lists net.things)) same ∙ f) in
-            absurd (passed_kept l.stand y.owner q original.kept)
+            absurd (q original.filter.0 (original.kept ∙ ap (λ m. stand.Kept m) original.filter.1))
         cases false t = refl
 
 not_crossed : (net : Net) (l : LiveList) → IsPlaced net l → is_passed l.stand ≡ true → is_crossed l.crossed ≡ false
@@ -116,7 +121,7 @@ pub is_free : (net : Net) (l : LiveList) → IsInPlace net → IsFine net l → 
 is_free net l h f q = record {
   numbered = h.numbered;
   found = f.found;
-  free = neither (is_crossed l.crossed) (has_clone net l.list.0) (not_crossed net l f.placed q) (no_clone net l (lists net.things) f.found q h.originals);
+  free = neither (is_crossed l.crossed) (has_clone net l.list.0) (not_crossed net l f.placed q) (no_clone net l (lists net.things) f.found (λ i. passed_kept l.stand (Filter i) q) h.originals);
 }
   where
     neither : (a b : Bool) → a ≡ false → b ≡ false → (a || b) ≡ false
@@ -262,3 +267,15 @@ pump_of_lowers net keeps (Some t) e h q = thing_lowers net t keeps h e
 
 pub pump_lowers : (net : Net) (keeps : Bool) → IsInPlace net → MovedLowers net (pump_outcome net keeps)
 pump_lowers net keeps h = pump_of_lowers net keeps (agenda_first net) refl h
+
+-- a pump adds nothing
+request_pump_adds : (net : Net) (o : Option Giving) → next_giving net ≡ o → IsInPlace net → OutcomeAdds net 0 (request_pump net o)
+request_pump_adds net None e h = adds_none net 0
+request_pump_adds net (Some g) e h = let less = request_pump_lowers net (Some g) e h refl in omega (arith, less)
+
+pump_of_adds : (net : Net) (keeps : Bool) (o : Option Thing) → find is_away net.things ≡ o → IsInPlace net → OutcomeAdds net 0 (pump_of net keeps o)
+pump_of_adds net keeps None e h = request_pump_adds net (next_giving net) refl h
+pump_of_adds net keeps (Some t) e h = let less = thing_lowers net t keeps h e in omega (arith, less)
+
+pub pump_adds : (net : Net) (keeps : Bool) → IsInPlace net → OutcomeAdds net 0 (pump_outcome net keeps)
+pump_adds net keeps h = pump_of_adds net keeps (agenda_first net) refl h
