@@ -1,1 +1,14 @@
 pub mod Places
+pub mod Lists
+pub mod Hands
+pub mod Routes
+pub mod Works
+pub mod Sends
+pub mod Homes
+pub mod Keepers
+pub mod Receives
+pub mod Lent
+pub mod Drains
+pub mod Pumps
+pub mod Fronts
+pub mod Turns

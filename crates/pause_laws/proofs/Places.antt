@@ -1,26 +1,17 @@
 -- Positions of filters in an order that has each of them once, and of the targets that lists go to.
-use Rattle.std.proofs.Common.{◌≡◌, ℕ, zero, suc, ◌+◌, ◌-◌, ◌<◌, ◌≤◌, ◌==◌, ◌||◌, not, nat_lt, Bool, true, false, cond, List, [], ◌∷◌, ◌++◌, length, take, drop, reverse, refl, arith, ap, sym, subst, ◌∙◌}
+use Rattle.std.proofs.Common.{◌≡◌, ℕ, zero, suc, ◌+◌, ◌-◌, ◌<◌, ◌≤◌, ◌==◌, ◌||◌, nat_lt, Bool, true, false, cond, List, [], ◌∷◌, ◌++◌, length, take, drop, reverse, refl, arith, ap, sym, subst, ◌∙◌}
 use Rattle.std.proofs.lemmas.Bool.Decides.{nat_tests}
 use Rattle.std.proofs.lemmas.List.{reverse-append}
 use Rattle.ndis_base.specs.declared.ModuleId.{ModuleId}
-use Rattle.ndis_base.specs.declared.ModuleId.TheVariants.{Miniport, Filter, Binding}
+use Rattle.ndis_base.specs.declared.ModuleId.TheVariants.{Miniport, Filter}
 use Rattle.journal_types.specs.declared.Target.{Target}
 use Rattle.journal_types.specs.declared.Target.TheVariants.{Module, Bindings}
 use Rattle.stack_rules.specs.Net.{Modules}
 use Rattle.stack_rules.specs.Places.{above, position, position_of_target}
-use Rattle.stack_rules.specs.Targets.{has_send, has_receive, first_filter, filters_above, filters_between, next_down, next_up, next_done, next_back}
+use Rattle.stack_rules.specs.Targets.{has_send, has_receive, first_filter, next_down, next_up, next_done, next_back}
 use Rattle.stack_rules.specs.Rewires.{is_in}
 use Rattle.state_laws.specs.Shape.{IsDistinct}
 use Rattle.pause_laws.specs.Clear.{IsNearest}
-
-above_most : (f : ℕ) (fs : List ℕ) → above f fs ≤ length fs
-above_most f [] = omega arith
-above_most f (g ∷ fs) = let rest = above_most f fs in elim (g == f) as (λ b. cond b 0 (above f fs + 1) ≤ length (g ∷ fs)) [ true ↦ omega arith | false ↦ omega (arith, rest) ]
-
-pub position_most : (order : List ℕ) (m : ModuleId) → position order m ≤ length order + 1
-position_most order Miniport = omega arith
-position_most order (Binding b) = omega arith
-position_most order (Filter f) = omega (arith, above_most f order)
 
 -- the filters of a list are counted one by one in the order, from a number on
 abbrev Counts : List ℕ → ℕ → List ℕ → Type 0

@@ -1,5 +1,6 @@
 -- Where the live lists are while some positions from the top are Paused: none of them is owned by a module
--- there, and none stands there or is on its way to there.
+-- there, and none stands there. Only a receive may still be on its way up to a module there, which then turns
+-- it back.
 use Rattle.std.specs.Prelude.{ℕ, ◌≡◌, ◌<◌, ◌≤◌, true, false, List}
 use Rattle.ndis_base.specs.declared.ModuleId.TheVariants.{Filter}
 use Rattle.journal_types.specs.declared.PassWay.TheVariants as way

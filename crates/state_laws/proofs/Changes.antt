@@ -95,9 +95,6 @@ none_at q r p = by (nat_lt p q) (nat_lt p r)
     by false true = refl
     by false false = refl
 
-pub none_paused : NoneDetached (λ p. state.Paused)
-none_paused p = refl
-
 told_same : (a b : Net) (f g : (ℕ → ModuleState) → ℕ → ModuleState) → ((states : ℕ → ModuleState) (i : ℕ) → f states i ≡ g states i) → IsTold a b f → IsTold a b g
 told_same a b f g e t = record {
   head = t.head;

@@ -1,10 +1,8 @@
 -- Each event keeps the shape.
-use Rattle.std.proofs.Common.{◌≡◌, ℕ, ◌+◌, ◌<◌, ◌≤◌, ◌==◌, ◌||◌, not, Bool, true, false, List, [], ◌∷◌, ◌++◌, Option, None, Some, length, replicate, refl, subst, sym, ap, ◌∙◌, arith, if◌then◌else◌}
+use Rattle.std.proofs.Common.{◌≡◌, ℕ, ◌+◌, ◌==◌, ◌||◌, Bool, true, false, List, [], ◌∷◌, ◌++◌, length, refl, subst, sym, ap, ◌∙◌, arith, if◌then◌else◌}
 use Rattle.std.proofs.lemmas.Bool.Decides.{nat_tests}
 use Rattle.journal_types.specs.declared.PhaseOf.TheVariants as of
 use Rattle.journal_types.specs.declared.Row.TheVariants as row
-use Rattle.journal_types.specs.declared.Row.{Row}
-use Rattle.std.proofs.lemmas.List.{length-replicate}
 use Rattle.ndis_base.specs.declared.FilterKind.{FilterKind}
 use Rattle.ndis_base.specs.declared.Phase.{Phase}
 use Rattle.ndis_base.specs.declared.Phase.TheVariants as phase
@@ -18,18 +16,18 @@ use Rattle.journal_types.specs.declared.Event.TheVariants as event
 use Rattle.journal_types.specs.declared.Turn.{Turn}
 use Rattle.stack_rules.specs.declared.Choice.{Choice}
 use Rattle.stack_rules.specs.Tests.{phase_is_halted, phase_is_paused, phase_is_running, phase_is_pausing, phase_is_restarting}
-use Rattle.stack_rules.specs.Net.{Net, Modules, start, told, after, after_rows, after_turn, after_turns, seen, with_filter}
+use Rattle.stack_rules.specs.Net.{Net, Modules, start, told, after, after_rows, after_turn, after_turns, seen}
 use Rattle.stack_rules.specs.Outcome.{Outcome, max_filters}
 use Rattle.stack_rules.specs.Places.{outstanding}
-use Rattle.stack_rules.specs.Pauses.{initialize_outcome, begin_outcome, pause_outcome, first_unpaused, restart_outcome, restarting, restart_rows, running_floors, is_top, halt_outcome, halt_items, live_items}
+use Rattle.stack_rules.specs.Pauses.{initialize_outcome, begin_outcome, pause_outcome, first_unpaused, restart_outcome, restart_rows, running_floors, is_top, halt_outcome, halt_items, live_items}
 use Rattle.stack_rules.specs.Rewires.{is_in, is_bad_position, insert_outcome, remove_outcome, replace_outcome}
 use Rattle.stack_rules.specs.Sound.{outcome, Next, SoundFrom, Sound}
-use Rattle.state_laws.specs.Shape.{state_at, StatesAre, IsWired, IsPausing, IsRestarting, Fits, IsShaped}
+use Rattle.state_laws.specs.Shape.{state_at, StatesAre, IsPausing, Fits, IsShaped}
 use Rattle.state_laws.proofs.Rows.{by_test, IsSame, same-refl, same-then, quiet_rows}
 use Rattle.state_laws.proofs.Quiet.{is_plain, quiet_event}
 use Rattle.state_laws.proofs.Takes.{StatesAre-same}
 use Rattle.state_laws.proofs.Floors.{first_unpaused_is}
-use Rattle.state_laws.proofs.Changes.{IsChanged, unchanged, fitted, none_paused}
+use Rattle.state_laws.proofs.Changes.{IsChanged, unchanged, fitted}
 use Rattle.state_laws.proofs.Phases.{begun, paused_step, restart_of, restart_by, all_paused_at}
 use Rattle.state_laws.proofs.Halts.{initialized, halted}
 use Rattle.state_laws.proofs.Rewires.{was_inserted, was_removed, was_replaced}
@@ -53,10 +51,6 @@ when_running _ h = cc
 pub when_pausing : (p : Phase) → phase_is_pausing p ≡ true → p ≡ phase.Pausing
 when_pausing phase.Pausing h = refl
 when_pausing _ h = cc
-
-pub when_restarting : (p : Phase) → phase_is_restarting p ≡ true → p ≡ phase.Restarting
-when_restarting phase.Restarting h = refl
-when_restarting _ h = cc
 
 -- the state after an event's outcome
 abbrev pub state_after : Net → Event → Outcome → Net
@@ -212,7 +206,7 @@ pub turn_is : (net : Net) (turn : Turn) (n : Next net turn) → after_turn net t
 turn_is net turn n = ap (λ rows. after_rows (told net turn.event turn.reply) rows) n.rows ∙ ap (λ r. after_rows (told net turn.event r) (outcome net turn.event n.choice).rows) n.reply
 
 pub shaped_start : (head : StackHead) → IsShaped (start head)
-shaped_start head = record { front = 2; fits = (record { bindings = refl; filters = refl; miniport = refl }, refl) }
+shaped_start head = record { front = 2; fits = (record { distinct = tt; bindings = refl; filters = refl; miniport = refl }, refl) }
 
 pub shaped_turns : (net : Net) (turns : List Turn) → IsShaped net → SoundFrom net turns → IsShaped (after_turns net turns)
 shaped_turns net [] s h = s

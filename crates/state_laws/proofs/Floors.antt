@@ -155,8 +155,7 @@ running_floors_are net many q some within h =
     count_up test passes q 1 (low net.modules.order) yes_from not_above (tests_low is_running net states 1 net.modules.order h.filters (h.miniport ∙ ap states at)) (omega arith) (omega (arith, size)) in
     let top : List ModuleId = binding_ids 0 net.modules.bindings in
     let whole : running_floors net ≡ cond (count_front test (reverse (low net.modules.order)) == length (low net.modules.order)) (cond (test top) (length (low net.modules.order) + 1) (length (low net.modules.order))) (count_front test (reverse (low net.modules.order))) =
-    count_reverse test top (low net.modules.order) in
-    (
+    count_reverse test top (low net.modules.order) in (
       λ m.
           let fails : test top ≡ false = tests_bindings is_running net many states m h ∙ not_above 0 some in
           found _ _ q (length net.modules.order) (test top) (running_floors net) whole rest size (λ e. absurd (cc (e, fails))),

@@ -98,7 +98,7 @@ halted net s w h f =
       shape = record {
         front = length net.modules.order + 2;
         fits = (
-          record { bindings = same_many net state.Paused state.Unbound h.bindings; filters = less_all-none net.modules.order net.modules.filters w.within; miniport = refl },
+          record { distinct = w.distinct; bindings = same_many net state.Paused state.Unbound h.bindings; filters = less_all-none net.modules.order net.modules.filters w.within; miniport = refl },
           refl,
         );
       };

@@ -7,3 +7,5 @@ pub mod Phases
 pub mod Halts
 pub mod Rewires
 pub mod Events
+pub mod States
+pub mod Tops

@@ -51,13 +51,14 @@ begun net s w r =
       head = t.head;
       list = t.list;
       things = t.things;
-      shape = shaped (length net.head.bindings) net.next.filter phase.Pausing 0 next (ap (λ h. length h.bindings) t.head) t.filter t.phase
-        (wired_by net.next.filter net.modules next.modules t.order t.within w,
+      shape = shaped (length net.head.bindings) net.next.filter phase.Pausing 0 next (ap (λ h. length h.bindings) t.head) t.filter t.phase (
+        wired_by net.next.filter net.modules next.modules t.order t.within w,
         record {
           some = r.some;
           within = omega arith;
           states = StatesAre-same _ (state_at 0 (0 + 1)) _ next.modules (λ i a. begun_at i) (t.states (length net.head.bindings) (state_at 0 0) (none_at 0 0) r.states);
-        });
+        },
+      );
       kind = inl record { order = t.order; receives = t.receives; steps = inl (omega arith) };
     }
 
@@ -81,13 +82,14 @@ paused_next net s front is w p none e l =
       head = both.head;
       list = both.list;
       things = both.things;
-      shape = shaped (length net.head.bindings) net.next.filter phase.Pausing (front + 1) next (ap (λ h. length h.bindings) both.head) both.filter (both.phase ∙ e)
-        (wired_by net.next.filter net.modules next.modules both.order both.within w,
+      shape = shaped (length net.head.bindings) net.next.filter phase.Pausing (front + 1) next (ap (λ h. length h.bindings) both.head) both.filter (both.phase ∙ e) (
+        wired_by net.next.filter net.modules next.modules both.order both.within w,
         record {
           some = p.some;
           within = omega (arith, ap length both.order);
           states = StatesAre-same _ (state_at (front + 1) (front + 1 + 1)) _ next.modules (λ i a. paused_next_at front i) (both.states (length net.head.bindings) (state_at front (front + 1)) (none_at front (front + 1)) p.states);
-        });
+        },
+      );
       kind = inl record { order = both.order; receives = both.receives; steps = inr (omega (arith, is), ap (outstanding net) is ∙ none) };
     }
 
@@ -105,11 +107,14 @@ paused_last net s front is w p none l =
       head = t.head;
       list = t.list;
       things = t.things;
-      shape = shaped (length net.head.bindings) net.next.filter phase.Paused (front + 1) next (ap (λ h. length h.bindings) t.head) t.filter refl
-        (wired_by net.next.filter net.modules mid.modules t.order t.within w,
-        (StatesAre-same (put (state_at front (front + 1)) front state.Paused) (λ i. state.Paused) (length net.head.bindings) mid.modules (λ i a. paused_last_at front i (omega (arith, a, size, l)))
-        (t.states (length net.head.bindings) (state_at front (front + 1)) (none_at front (front + 1)) p.states),
-        omega (arith, size, l)));
+      shape = shaped (length net.head.bindings) net.next.filter phase.Paused (front + 1) next (ap (λ h. length h.bindings) t.head) t.filter refl (
+        wired_by net.next.filter net.modules mid.modules t.order t.within w,
+        (
+          StatesAre-same (put (state_at front (front + 1)) front state.Paused) (λ i. state.Paused) (length net.head.bindings) mid.modules (λ i a. paused_last_at front i (omega (arith, a, size, l)))
+              (t.states (length net.head.bindings) (state_at front (front + 1)) (none_at front (front + 1)) p.states),
+          omega (arith, size, l),
+        ),
+      );
       kind = inl record { order = t.order; receives = t.receives; steps = inr (omega (arith, is), ap (outstanding net) is ∙ none) };
     }
 
@@ -140,19 +145,22 @@ restart_of net i top = state_rows (state.Restarting ∷ state.Running ∷ []) (g
 restart_shape : (net next : Net) (j : ℕ) (top : Bool) → net.phase ≡ phase.Restarting → IsWired net.next.filter net.modules → StatesAre (length net.head.bindings) net.modules (state_at (j + 1) (j + 1)) → IsTold net next (λ states. put states j state.Running) →
     j ≤ length net.modules.order + 1 → (top ≡ true → (j ≡ 0) × (0 < length net.head.bindings)) → (top ≡ false → 0 < j) → (shape : IsShaped (after_rows next (if top then row.Phase (of.Stack phase.Running) ∷ [] else []))) × (shape.front ≡ j)
 restart_shape net next j true e w h t l a b =
-    let now : StatesAre (length net.head.bindings) next.modules (state_at 0 0) = StatesAre-same (put (state_at (j + 1) (j + 1)) j state.Running) (state_at 0 0) (length net.head.bindings) next.modules (λ i q. restarted_at j i ∙ ap (λ n. state_at n n i) (a refl).0) (t.states (length net.head.bindings) (state_at (j + 1) (j + 1)) (none_at (j + 1) (j + 1)) h) in
-    (shaped (length net.head.bindings) net.next.filter phase.Running 0 (after next (row.Phase (of.Stack phase.Running))) (ap (λ h. length h.bindings) t.head) t.filter refl
-      (wired_by net.next.filter net.modules next.modules t.order t.within w, (record { some = (a refl).1; states = now }, refl)),
-    sym (a refl).0)
-restart_shape net next j false e w h t l a b =
-    (shaped (length net.head.bindings) net.next.filter phase.Restarting j next (ap (λ h. length h.bindings) t.head) t.filter (t.phase ∙ e)
-      (wired_by net.next.filter net.modules next.modules t.order t.within w,
-      record {
-        some = b refl;
-        within = omega (arith, ap length t.order);
-        states = StatesAre-same (put (state_at (j + 1) (j + 1)) j state.Running) (state_at j j) (length net.head.bindings) next.modules (λ i q. restarted_at j i) (t.states (length net.head.bindings) (state_at (j + 1) (j + 1)) (none_at (j + 1) (j + 1)) h);
-      }),
-    refl)
+    let now : StatesAre (length net.head.bindings) next.modules (state_at 0 0) = StatesAre-same (put (state_at (j + 1) (j + 1)) j state.Running) (state_at 0 0) (length net.head.bindings) next.modules (λ i q. restarted_at j i ∙ ap (λ n. state_at n n i) (a refl).0) (t.states (length net.head.bindings) (state_at (j + 1) (j + 1)) (none_at (j + 1) (j + 1)) h) in (
+      shaped (length net.head.bindings) net.next.filter phase.Running 0 (after next (row.Phase (of.Stack phase.Running))) (ap (λ h. length h.bindings) t.head) t.filter refl
+          (wired_by net.next.filter net.modules next.modules t.order t.within w, (record { some = (a refl).1; states = now }, refl)),
+      sym (a refl).0,
+    )
+restart_shape net next j false e w h t l a b = (
+  shaped (length net.head.bindings) net.next.filter phase.Restarting j next (ap (λ h. length h.bindings) t.head) t.filter (t.phase ∙ e) (
+    wired_by net.next.filter net.modules next.modules t.order t.within w,
+    record {
+      some = b refl;
+      within = omega (arith, ap length t.order);
+      states = StatesAre-same (put (state_at (j + 1) (j + 1)) j state.Running) (state_at j j) (length net.head.bindings) next.modules (λ i q. restarted_at j i) (t.states (length net.head.bindings) (state_at (j + 1) (j + 1)) (none_at (j + 1) (j + 1)) h);
+    },
+  ),
+  refl,
+)
 
 -- the last row of a restart's step changes nothing but the phase
 record IsLast (a b : Net) : Type 0 where

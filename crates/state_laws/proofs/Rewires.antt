@@ -246,8 +246,8 @@ was_removed net s f e full w h =
     let entries : List Attached = less f net.modules.filters in
     let paused : (g : ℕ) → is_in g order ≡ true → IsPausedIn entries g =
     λ g i.
-        let both = both_of (g == f) (is_in g net.modules.order) (sym (is_in-but g f net.modules.order) ∙ i) in
-        ap state_in (attached_less g f net.modules.filters both.0) ∙ each_paused net.modules.filters 1 net.modules.order g h.filters both.1 in
+    let both = both_of (g == f) (is_in g net.modules.order) (sym (is_in-but g f net.modules.order) ∙ i) in
+    ap state_in (attached_less g f net.modules.filters both.0) ∙ each_paused net.modules.filters 1 net.modules.order g h.filters both.1 in
     record {
       head = refl;
       list = refl;

@@ -1,5 +1,5 @@
 -- Rows one after the other, and rows that change no state of a module.
-use Rattle.std.proofs.Common.{◌≡◌, Bool, true, false, cond, List, [], ◌∷◌, ◌++◌, Option, Some, None, refl, ◌∙◌, map}
+use Rattle.std.proofs.Common.{◌≡◌, Bool, true, false, cond, List, [], ◌∷◌, ◌++◌, refl, ◌∙◌, map}
 use Rattle.std.specs.List.{flat_map}
 use Rattle.journal_types.specs.declared.PhaseOf.TheVariants as of
 use Rattle.journal_types.specs.declared.Row.{Row}
@@ -10,10 +10,6 @@ use Rattle.stack_rules.specs.Net.{Net, after, after_rows}
 pub by_test : {A : Type 0} (P : A → Type 0) (b : Bool) (x y : A) → (b ≡ true → P x) → (b ≡ false → P y) → P (cond b x y)
 by_test P true x y f g = f refl
 by_test P false x y f g = g refl
-
-pub by_found : {A B : Type 0} (P : B → Type 0) (o : Option A) (h : Option A → B) → (o ≡ None → P (h None)) → ((x : A) → o ≡ Some x → P (h (Some x))) → P (h o)
-by_found P None h f g = f refl
-by_found P (Some x) h f g = g x refl
 
 pub after_rows-append : (net : Net) (xs ys : List Row) → after_rows net (xs ++ ys) ≡ after_rows (after_rows net xs) ys
 after_rows-append net [] ys = refl

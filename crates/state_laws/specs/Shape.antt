@@ -47,6 +47,7 @@ pub record IsWired (next : ℕ) (ms : Modules) : Type 0 where
 
 -- nothing runs
 pub record IsHalted (many : ℕ) (ms : Modules) : Type 0 where
+  pub distinct : IsDistinct ms.order
   pub bindings : ms.bindings ≡ replicate many state.Unbound
   pub filters : ms.filters ≡ []
   pub miniport : ms.miniport ≡ state.Halted
