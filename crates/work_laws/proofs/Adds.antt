@@ -1,14 +1,12 @@
 -- What sends, receives, statuses and requests add to the work.
-use Rattle.std.proofs.Common.{◌≡◌, ℕ, ◌+◌, ◌-◌, ◌*◌, ◌≤◌, ◌==◌, ◌||◌, not, Bool, true, false, cond, List, [], ◌∷◌, ◌++◌, Option, Some, None, length, refl, arith, ap, sym, subst, filter, find, sum_by, count_by, mul-le-mul_left}
-use Rattle.std.proofs.lemmas.List.Sums.{sum_by-cons, sum_by_push, sum_by-le-sum_by}
+use Rattle.std.proofs.Common.{◌≡◌, ℕ, ◌+◌, ◌-◌, ◌*◌, ◌≤◌, ◌==◌, ◌||◌, not, Bool, true, false, cond, List, [], ◌∷◌, ◌++◌, Option, Some, None, length, refl, arith, ap, sum_by, count_by, mul-le-mul_left}
+use Rattle.std.proofs.lemmas.List.Sums.{sum_by_push, sum_by-le-sum_by}
 use Rattle.ndis_base.specs.declared.ModuleId.{ModuleId}
 use Rattle.ndis_base.specs.declared.ModuleId.TheVariants.{Miniport, Filter, Binding}
 use Rattle.ndis_base.specs.declared.ModuleState.{ModuleState}
-use Rattle.ndis_base.specs.declared.Phase.{Phase}
 use Rattle.ndis_base.specs.declared.Phase.TheVariants as phase
 use Rattle.ndis_base.specs.declared.ListNo.{ListNo}
 use Rattle.ndis_base.specs.declared.OidKind.{OidKind}
-use Rattle.ndis_base.specs.declared.OidNo.{OidNo}
 use Rattle.ndis_base.specs.declared.StatusName.{StatusName}
 use Rattle.ndis_base.specs.declared.StatusNo.{StatusNo}
 use Rattle.ndis_base.specs.declared.ConfigNo.{ConfigNo}
@@ -33,27 +31,27 @@ use Rattle.ndis_base.specs.declared.ModuleState.TheVariants as state
 use Rattle.stack_rules.specs.declared.Stand.{Stand}
 use Rattle.stack_rules.specs.declared.Stand.TheVariants as stand
 use Rattle.stack_rules.specs.Tests.{is_echo, is_down, is_running, is_halted, is_unbound, phase_is_running, phase_is_pausing}
-use Rattle.stack_rules.specs.Net.{Net, Modules, after, after_rows, lists, request_of, modules_after, taken_by, is_status, without_status, kind_of_binding, binding_numbers}
+use Rattle.stack_rules.specs.Net.{Net, Modules, after, after_rows, request_of, modules_after, taken_by, is_status, without_status, kind_of_binding, binding_numbers}
 use Rattle.stack_rules.specs.Places.{has_clone, is_full, state_of, outstanding, position, position_of_target, is_crossed}
 use Rattle.stack_rules.specs.Targets.{next_down, next_up, next_status}
 use Rattle.stack_rules.specs.Outcome.{Outcome, root, list_no, config_no, status_no, oid_no, cross_no}
 use Rattle.ndis_base.specs.declared.Origin.TheVariants as origin
 use Rattle.program_types.specs.Apply.{pushed}
-use Rattle.stack_rules.specs.Sends.{sent, send_outcome}
+use Rattle.stack_rules.specs.Sends.{send_outcome}
 use Rattle.stack_rules.specs.Receives.{indicated, indicate_outcome}
 use Rattle.stack_rules.specs.Statuses.{status_outcome}
 use Rattle.stack_rules.specs.Requests.{ask_outcome}
-use Rattle.stack_rules.specs.Crosses.{grows_too_long, mux_binding_for, put_rows, put_outcome, put_up_outcome, take_of, first_uncrossed, take_outcome}
-use Rattle.stack_rules.specs.Pauses.{state_rows, state_row, binding_ids, begin_outcome, paused_rows, pause_at, pause_outcome, first_unpaused, floors}
+use Rattle.stack_rules.specs.Crosses.{grows_too_long, mux_binding_for, put_outcome, put_up_outcome, take_of, first_uncrossed, take_outcome}
+use Rattle.stack_rules.specs.Pauses.{state_rows, state_row, binding_ids, begin_outcome, paused_rows, pause_outcome, first_unpaused, floors}
 use Rattle.stack_rules.specs.Work.{bottom, echo_count, up_work, kept_work, given_position, holder_position, request_work, list_work, work}
 use Rattle.std.specs.List.{list_any}
 use Rattle.std.proofs.Common.{map, nat_lt, get_or}
-use Rattle.rule_basics.specs.Numbers.{IsNumbered, IssueNext}
+use Rattle.rule_basics.specs.Numbers.{IsNumbered}
 use Rattle.home_laws.proofs.Known.{by_test}
 use Rattle.work_laws.specs.Bounds.{send_room, receive_room}
 use Rattle.work_laws.proofs.Sums.{sum_filter, sum_last, sum_changed}
-use Rattle.work_laws.proofs.Weights.{Stay, weight, asked_work, load, work_most, work_least, work_after, load_pass, load_issue, passed_work}
-use Rattle.work_laws.proofs.Clones.{AreStaying, clones_rows}
+use Rattle.work_laws.proofs.Weights.{Stay, weight, asked_work, load, work_least, work_after, load_pass, load_issue, passed_work}
+use Rattle.work_laws.proofs.Clones.{clones_rows}
 use Rattle.work_laws.proofs.Ways.{down_least, up_near, status_near}
 
 -- the rows add at most so much

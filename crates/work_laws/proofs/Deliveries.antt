@@ -1,9 +1,9 @@
 -- What a delivery to the bindings leaves to do.
-use Rattle.std.proofs.Common.{◌≡◌, ℕ, ◌+◌, ◌-◌, ◌*◌, ◌≤◌, ◌<◌, ◌==◌, ◌&&◌, not, Bool, true, false, cond, List, [], ◌∷◌, ◌++◌, Option, Some, None, length, refl, arith, ap, sym, subst, ◌∙◌, filter, count_by, mul-le-mul_left}
+use Rattle.std.proofs.Common.{◌≡◌, ℕ, ◌+◌, ◌-◌, ◌*◌, ◌≤◌, ◌<◌, ◌==◌, ◌&&◌, not, Bool, true, false, cond, List, [], ◌∷◌, ◌++◌, Option, Some, None, length, refl, arith, ap, sym, subst, ◌∙◌, count_by, mul-le-mul_left}
 use Rattle.std.proofs.lemmas.Bool.Decides.{nat_tests}
 use Rattle.ndis_base.specs.declared.ListNo.{ListNo}
 use Rattle.ndis_base.specs.declared.ListStatus.TheVariants.{Success}
-use Rattle.ndis_base.specs.declared.ModuleId.TheVariants.{Miniport, Filter, Binding}
+use Rattle.ndis_base.specs.declared.ModuleId.TheVariants.{Binding}
 use Rattle.ndis_base.specs.declared.Direction.TheVariants as direction
 use Rattle.ndis_base.specs.declared.Origin.TheVariants as origin
 use Rattle.journal_types.specs.declared.How.{How}
@@ -19,7 +19,7 @@ use Rattle.stack_rules.specs.Places.{has_clone, is_full, is_crossed, position_of
 use Rattle.stack_rules.specs.Targets.{next_down, next_back, homeward}
 use Rattle.stack_rules.specs.Outcome.{root, list_no, config_no}
 use Rattle.stack_rules.specs.Deliveries.{takes, takers, echoes, how_for, delivered, settled, last_of, delivery_rows}
-use Rattle.stack_rules.specs.Work.{bottom, echo_count, up_work, kept_work, list_work, work}
+use Rattle.stack_rules.specs.Work.{bottom, echo_count, up_work, kept_work, work}
 use Rattle.rule_basics.specs.Numbers.{IsNumbered}
 use Rattle.rule_basics.proofs.Counts.{one_if, count_by-cons}
 use Rattle.rule_basics.proofs.Each.{Each-found}
@@ -27,7 +27,7 @@ use Rattle.rule_basics.proofs.Numbered.{numbered_after}
 use Rattle.home_laws.proofs.Known.{by_test}
 use Rattle.work_laws.proofs.Weights.{Stay, weight, load, work_least, work_after, load_pass, load_moved, load_keep, load_issue, passed_work}
 use Rattle.work_laws.proofs.Clones.{clones_after}
-use Rattle.work_laws.proofs.Ways.{down_least, target_most}
+use Rattle.work_laws.proofs.Ways.{down_least}
 use Rattle.journal_types.specs.declared.Target.{Target}
 use Rattle.journal_types.specs.declared.Target.TheVariants.{Bindings}
 use Rattle.stack_rules.specs.declared.Stand.TheVariants as stand

@@ -1,16 +1,13 @@
 -- Each drain that moves something, and in which no loop adapter indicates, leaves less to do, where everything
 -- stands in its place.
-use Rattle.std.proofs.Common.{◌≡◌, ℕ, ◌+◌, ◌-◌, ◌*◌, ◌≤◌, ◌<◌, ◌==◌, ◌&&◌, ◌||◌, not, Bool, true, false, cond, List, [], ◌∷◌, ◌++◌, Option, Some, None, length, refl, arith, ap, sym, subst, ◌∙◌, ◌⊎◌, inl, inr, filter, map}
+use Rattle.std.proofs.Common.{◌≡◌, ℕ, ◌+◌, ◌-◌, ◌*◌, ◌≤◌, ◌==◌, ◌||◌, not, Bool, true, false, cond, List, [], ◌∷◌, ◌++◌, Option, Some, None, length, refl, arith, ap, sym, subst, ◌∙◌, ◌⊎◌, inl, inr, filter, map}
 use Rattle.std.proofs.lemmas.Bool.Decides.{nat_tests}
-use Rattle.std.specs.List.{list_any}
-use Rattle.ndis_base.specs.declared.ListStatus.{ListStatus}
 use Rattle.ndis_base.specs.declared.ListStatus.TheVariants.{Success, Paused}
 use Rattle.ndis_base.specs.declared.ModuleId.{ModuleId}
 use Rattle.ndis_base.specs.declared.ModuleId.TheVariants.{Miniport, Filter, Binding}
 use Rattle.journal_types.specs.declared.PassWay.{PassWay}
 use Rattle.journal_types.specs.declared.PassWay.TheVariants as way
 use Rattle.journal_types.specs.declared.Target.{Target}
-use Rattle.journal_types.specs.declared.Reply.TheVariants as reply
 use Rattle.journal_types.specs.declared.Row.{Row}
 use Rattle.journal_types.specs.declared.Row.TheVariants as row
 use Rattle.stack_rules.specs.declared.LiveList.{LiveList}
@@ -18,22 +15,21 @@ use Rattle.stack_rules.specs.declared.Stand.{Stand}
 use Rattle.stack_rules.specs.declared.Stand.TheVariants as stand
 use Rattle.stack_rules.specs.declared.Thing.{Thing}
 use Rattle.stack_rules.specs.declared.Thing.TheVariants as thing
-use Rattle.stack_rules.specs.Tests.{is_down, is_miniport, is_retain, is_virtual, phase_is_running}
+use Rattle.stack_rules.specs.Tests.{is_down, is_retain, is_virtual, phase_is_running}
 use Rattle.stack_rules.specs.Net.{Net, after, after_rows, lists, list_of, passed, kind_of_binding, binding_numbers}
-use Rattle.stack_rules.specs.Places.{position, position_of_target, waits, is_kept_by, has_clone, kept_lists, ready_lists}
-use Rattle.stack_rules.specs.Targets.{next_down, next_up, next_done, next_back, onward, homeward, turned_back}
-use Rattle.stack_rules.specs.Outcome.{Outcome}
+use Rattle.stack_rules.specs.Places.{position, waits, is_kept_by, has_clone, kept_lists, ready_lists}
+use Rattle.stack_rules.specs.Targets.{next_down, next_up, next_done, next_back, homeward, turned_back}
 use Rattle.stack_rules.specs.Sends.{first_of, loops, transmitted}
 use Rattle.stack_rules.specs.Cancels.{holds_lists}
-use Rattle.stack_rules.specs.Pumps.{pump_moves, pump_outcome}
+use Rattle.stack_rules.specs.Pumps.{pump_moves}
 use Rattle.stack_rules.specs.Drains.{returned_by, returns_all, passed_by, passes_all, empties, empties_ring, first_rows, drain_rows, drained, drain_outcome}
 use Rattle.stack_rules.specs.Rewires.{is_in}
-use Rattle.stack_rules.specs.Work.{bottom, up_work, kept_work, list_work, work}
+use Rattle.stack_rules.specs.Work.{bottom, up_work, kept_work, list_work}
 use Rattle.rule_basics.specs.Live.{is_live, IsApart, Each}
 use Rattle.rule_basics.specs.Numbers.{IsNumbered}
 use Rattle.rule_basics.proofs.Numbered.{numbered_after}
-use Rattle.home_laws.proofs.Known.{by_test, Each-filter, Each-first_of}
-use Rattle.work_laws.specs.Kept.{Stands, IsPlaced, IsOrdered, IsInPlace}
+use Rattle.home_laws.proofs.Known.{by_test, Each-first_of}
+use Rattle.work_laws.specs.Kept.{Stands, IsOrdered, IsInPlace}
 use Rattle.work_laws.proofs.Weights.{Stay, weight, load, work_least, work_after, load_moved, passed_work}
 use Rattle.work_laws.proofs.Clones.{clones_after}
 use Rattle.work_laws.proofs.Ways.{target_most, in_above, down_far, up_near, done_near, back_least}

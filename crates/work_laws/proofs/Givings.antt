@@ -1,5 +1,5 @@
 -- A request that a pump gives to a module leaves less to do.
-use Rattle.std.proofs.Common.{◌≡◌, ℕ, zero, suc, ◌+◌, ◌-◌, ◌*◌, ◌≤◌, ◌<◌, ◌==◌, ◌&&◌, ◌||◌, not, Bool, true, false, cond, List, [], ◌∷◌, ◌++◌, Option, Some, None, length, refl, arith, ap, sym, subst, ◌∙◌, ◌⊎◌, inl, inr, filter, find, map, reverse, drop, sum_by}
+use Rattle.std.proofs.Common.{◌≡◌, ℕ, ◌+◌, ◌-◌, ◌*◌, ◌≤◌, ◌<◌, ◌==◌, ◌&&◌, ◌||◌, not, Bool, true, false, cond, List, [], ◌∷◌, ◌++◌, Option, Some, None, refl, arith, ap, sym, subst, ◌∙◌, ◌⊎◌, inl, inr, filter, find, map, reverse, drop, sum_by}
 use Rattle.std.proofs.lemmas.Bool.Decides.{nat_tests}
 use Rattle.std.proofs.lemmas.List.Sums.{sum_by-cons, sum_by_push, sum_by-le-sum_by}
 use Rattle.ndis_base.specs.declared.OidNo.{OidNo}
@@ -17,25 +17,24 @@ use Rattle.stack_rules.specs.declared.RequestAt.{RequestAt}
 use Rattle.stack_rules.specs.declared.RequestAt.TheVariants as at
 use Rattle.stack_rules.specs.declared.Thing.{Thing}
 use Rattle.stack_rules.specs.declared.Thing.TheVariants as thing
-use Rattle.stack_rules.specs.Net.{Net, Modules, after, after_rows, lists, request_of, answers, given_to, first_oid, below, has_oid, place_below, place_of_clone, place_of_request}
+use Rattle.stack_rules.specs.Net.{Net, Modules, after, after_rows, request_of, answers, given_to, first_oid, below, has_oid, place_of_clone, place_of_request}
 use Rattle.stack_rules.specs.Places.{above, position, has_clone}
 use Rattle.stack_rules.specs.Requests.{Giving, waits_at, is_at_entry, is_busy, has_waiting, first_waiting, filter_ids, oid_modules, giving_to, lowest_giving, entry_giving, or_else, next_giving, given_rows_by, giving_rows}
 use Rattle.stack_rules.specs.OidTable.{report_of}
 use Rattle.stack_rules.specs.Outcome.{oid_no}
 use Rattle.stack_rules.specs.Rewires.{is_in}
-use Rattle.stack_rules.specs.Work.{bottom, given_position, holder_position, request_work, work}
+use Rattle.stack_rules.specs.Work.{bottom, given_position, holder_position, request_work}
 use Rattle.state_laws.specs.Shape.{IsDistinct}
 use Rattle.rule_basics.specs.Numbers.{IsNumbered}
-use Rattle.pause_laws.proofs.Places.{position_most}
-use Rattle.work_laws.proofs.Sums.{sum_filter, sum_last}
+use Rattle.work_laws.proofs.Sums.{sum_filter}
 use Rattle.work_laws.proofs.Weights.{Stay, weight, asked_work, load, work_least, work_after}
-use Rattle.work_laws.proofs.Clones.{AreStaying, clones_rows}
-use Rattle.work_laws.proofs.Ways.{in_above, drop_above, drop_in, reverse_in}
+use Rattle.work_laws.proofs.Clones.{clones_rows}
+use Rattle.work_laws.proofs.Ways.{position_most, in_above, drop_above, reverse_in}
 use Rattle.work_laws.proofs.Adds.{new_holder}
 use Rattle.work_laws.proofs.Moves.{same_is}
 use Rattle.std.proofs.Common.{add-one}
 use Rattle.work_laws.proofs.Filters.{Lowers}
-use Rattle.work_laws.specs.Kept.{place_position, IsGiven, IsBelow, IsAsked, EachAnswer, EachRequest}
+use Rattle.work_laws.specs.Kept.{place_position, IsBelow, IsAsked, EachAnswer}
 use Rattle.work_laws.proofs.Items.{held_at, done_load}
 
 -- two sums that differ only at answers

@@ -1,5 +1,5 @@
 -- A live list stays found by its number while rows change where it was last or put others on their way.
-use Rattle.std.proofs.Common.{◌≡◌, ℕ, ◌+◌, ◌<◌, ◌==◌, not, Bool, true, false, cond, List, [], ◌∷◌, ◌++◌, Option, Some, None, refl, arith, ap, sym, subst, ◌∙◌}
+use Rattle.std.proofs.Common.{◌≡◌, ℕ, ◌==◌, not, Bool, true, false, cond, List, [], ◌∷◌, ◌++◌, Option, Some, None, refl, arith, ap, ◌∙◌}
 use Rattle.std.proofs.lemmas.Bool.Decides.{nat_tests}
 use Rattle.ndis_base.specs.declared.ModuleId.{ModuleId}
 use Rattle.ndis_base.specs.declared.ListNo.{ListNo}
@@ -10,12 +10,11 @@ use Rattle.ndis_base.specs.declared.Origin.{Origin}
 use Rattle.journal_types.specs.declared.Handler.{Handler}
 use Rattle.journal_types.specs.declared.PassWay.{PassWay}
 use Rattle.journal_types.specs.declared.Target.{Target}
-use Rattle.journal_types.specs.declared.Row.{Row}
 use Rattle.journal_types.specs.declared.Row.TheVariants as row
 use Rattle.stack_rules.specs.declared.LiveList.{LiveList}
-use Rattle.stack_rules.specs.Net.{Net, after, lists, list_of, had_by, passed_to, kept_by}
-use Rattle.rule_basics.specs.Live.{others, touched, retouched, with_last, KeepsNumber}
-use Rattle.rule_basics.proofs.Lists.{lists-append, lists-without, lists-changed, lists-kept, lists-passed}
+use Rattle.stack_rules.specs.Net.{Net, after, lists, list_of, had_by, passed_to}
+use Rattle.rule_basics.specs.Live.{others, retouched, with_last, KeepsNumber}
+use Rattle.rule_basics.proofs.Lists.{lists-append, lists-without, lists-changed, lists-passed}
 
 -- the list is found by its number
 abbrev pub Found : Net → LiveList → Type 0

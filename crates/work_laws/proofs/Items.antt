@@ -1,12 +1,10 @@
 -- Each status, answer and request that a pump works leaves less to do.
-use Rattle.std.proofs.Common.{◌≡◌, ℕ, ◌+◌, ◌-◌, ◌*◌, ◌≤◌, ◌<◌, ◌==◌, ◌&&◌, ◌||◌, not, Bool, true, false, cond, List, [], ◌∷◌, ◌++◌, Option, Some, None, length, refl, arith, ap, sym, subst, ◌∙◌, ◌⊎◌, inl, inr, filter, find, map, sum_by}
+use Rattle.std.proofs.Common.{◌≡◌, ℕ, ◌+◌, ◌-◌, ◌≤◌, ◌==◌, not, Bool, true, false, cond, List, [], ◌∷◌, Option, Some, None, length, refl, arith, ap, ◌∙◌, filter, find, sum_by}
 use Rattle.std.proofs.lemmas.Bool.Decides.{nat_tests}
-use Rattle.std.proofs.lemmas.List.Sums.{sum_by-cons, sum_by_push, sum_by-le-sum_by}
+use Rattle.std.proofs.lemmas.List.Sums.{sum_by-cons, sum_by-le-sum_by}
 use Rattle.ndis_base.specs.declared.OidNo.{OidNo}
-use Rattle.ndis_base.specs.declared.OidKind.{OidKind}
 use Rattle.ndis_base.specs.declared.OidStatus.{OidStatus}
 use Rattle.ndis_base.specs.declared.StatusNo.{StatusNo}
-use Rattle.ndis_base.specs.declared.StatusName.{StatusName}
 use Rattle.ndis_base.specs.declared.ModuleState.{ModuleState}
 use Rattle.ndis_base.specs.declared.ModuleId.{ModuleId}
 use Rattle.ndis_base.specs.declared.ModuleId.TheVariants.{Miniport, Filter, Binding}
@@ -16,31 +14,24 @@ use Rattle.journal_types.specs.declared.Row.{Row}
 use Rattle.journal_types.specs.declared.Row.TheVariants as row
 use Rattle.stack_rules.specs.declared.Answered.{Answered}
 use Rattle.stack_rules.specs.declared.StatusAway.{StatusAway}
-use Rattle.stack_rules.specs.declared.LiveList.{LiveList}
 use Rattle.stack_rules.specs.declared.Request.{Request}
-use Rattle.stack_rules.specs.declared.RequestAt.{RequestAt}
 use Rattle.stack_rules.specs.declared.RequestAt.TheVariants as at
 use Rattle.stack_rules.specs.declared.Thing.{Thing}
 use Rattle.stack_rules.specs.declared.Thing.TheVariants as thing
 use Rattle.stack_rules.specs.Tests.{is_binding}
-use Rattle.stack_rules.specs.Net.{Net, Modules, after, after_rows, lists, request_of, is_status, answers, without_status, answer_to, things_done, given_to, first_oid, below, has_oid, place_below, place_of_clone, place_of_request}
-use Rattle.stack_rules.specs.Places.{above, position, position_of_target, has_clone, is_away}
+use Rattle.stack_rules.specs.Net.{Net, after, after_rows, request_of, is_status, answers, answer_to, things_done}
+use Rattle.stack_rules.specs.Places.{position, position_of_target, has_clone, is_away}
 use Rattle.stack_rules.specs.Targets.{next_status}
 use Rattle.stack_rules.specs.Statuses.{seen_by_all, status_rows}
-use Rattle.stack_rules.specs.Requests.{Giving, given_rows_by, giving_rows, answer_rows}
-use Rattle.stack_rules.specs.OidTable.{report_of}
-use Rattle.stack_rules.specs.Outcome.{oid_no}
-use Rattle.stack_rules.specs.Rewires.{is_in}
-use Rattle.stack_rules.specs.Work.{bottom, given_position, holder_position, request_work, list_work, work}
-use Rattle.state_laws.specs.Shape.{IsDistinct}
+use Rattle.stack_rules.specs.Requests.{answer_rows}
+use Rattle.stack_rules.specs.Work.{given_position, holder_position, request_work}
 use Rattle.rule_basics.specs.Numbers.{IsNumbered, IssueNext}
-use Rattle.pause_laws.proofs.Places.{position_most}
 use Rattle.work_laws.proofs.Sums.{sum_filter, sum_last}
 use Rattle.work_laws.proofs.Weights.{Stay, weight, asked_work, load, work_least, work_after}
 use Rattle.work_laws.proofs.Clones.{AreStaying, clones_rows}
-use Rattle.work_laws.proofs.Ways.{status_near, in_above}
+use Rattle.work_laws.proofs.Ways.{status_near}
 use Rattle.work_laws.proofs.Adds.{load_status}
-use Rattle.work_laws.specs.Kept.{GoesUp, place_position, IsGiven, IsBelow, IsAsked}
+use Rattle.work_laws.specs.Kept.{GoesUp, place_position, IsGiven, IsAsked}
 use Rattle.work_laws.proofs.Filters.{Lowers}
 
 -- what a test leaves out is gone from the sum

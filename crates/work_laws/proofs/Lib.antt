@@ -13,5 +13,5 @@ pub mod Items
 pub mod Givings
 pub mod Pumps
 pub mod Drains
-pub mod Movements
 pub mod Others
+pub mod Movements

@@ -1,5 +1,5 @@
 -- What a list on its way leaves to do after it is worked: it is passed on, kept, turned back or cloned.
-use Rattle.std.proofs.Common.{◌≡◌, ℕ, ◌+◌, ◌-◌, ◌*◌, ◌≤◌, ◌<◌, ◌==◌, ◌||◌, ◌&&◌, not, Bool, true, false, cond, List, [], ◌∷◌, ◌++◌, Option, Some, None, length, refl, arith, ap, sym, subst, ◌∙◌, sum_by}
+use Rattle.std.proofs.Common.{◌≡◌, ℕ, ◌+◌, ◌≤◌, ◌==◌, ◌||◌, ◌&&◌, not, Bool, true, false, cond, List, [], ◌∷◌, Option, Some, None, refl, arith, ap, subst, ◌∙◌, sum_by}
 use Rattle.std.proofs.lemmas.Bool.Decides.{nat_tests}
 use Rattle.std.proofs.lemmas.List.Sums.{sum_by-cons, sum_by-le-sum_by}
 use Rattle.ndis_base.specs.declared.ModuleId.{ModuleId}
@@ -7,7 +7,6 @@ use Rattle.ndis_base.specs.declared.ListNo.{ListNo}
 use Rattle.ndis_base.specs.declared.ListStatus.{ListStatus}
 use Rattle.ndis_base.specs.declared.ConfigNo.{ConfigNo}
 use Rattle.ndis_base.specs.declared.Direction.{Direction}
-use Rattle.ndis_base.specs.declared.Origin.{Origin}
 use Rattle.ndis_base.specs.declared.Origin.TheVariants as origin
 use Rattle.journal_types.specs.declared.Handler.{Handler}
 use Rattle.journal_types.specs.declared.PassWay.{PassWay}
@@ -22,18 +21,17 @@ use Rattle.stack_rules.specs.Tests.{is_down}
 use Rattle.stack_rules.specs.Net.{Net, after, after_rows, lists, list_of, without, had_by, kept_by, passed_to}
 use Rattle.stack_rules.specs.Places.{has_clone, waits, is_crossed, is_clone_of}
 use Rattle.stack_rules.specs.Work.{list_work, kept_work, work}
-use Rattle.rule_basics.specs.Numbers.{IsNumbered, IssueNext}
+use Rattle.rule_basics.specs.Numbers.{IsNumbered}
 use Rattle.rule_basics.proofs.Numbered.{numbered_after}
 use Rattle.work_laws.proofs.Sums.{sum_taken, sum_without, sum_at_end}
-use Rattle.work_laws.proofs.Weights.{Stay, weight, asked_work, load, work_least, work_after, load_pass, load_moved, load_keep, load_issue, load_give, load_back, load_gone, passed_work, passed_weighs, weight_less}
-use Rattle.work_laws.proofs.Clones.{AreStaying, any_clone, taken_any, clones_after, clones_rows}
-use Rattle.std.specs.List.{list_any}
+use Rattle.work_laws.proofs.Weights.{Stay, weight, load, work_least, work_after, load_pass, load_moved, load_keep, load_issue, load_give, load_back, load_gone, passed_work, passed_weighs, weight_less}
+use Rattle.work_laws.proofs.Clones.{any_clone, taken_any, clones_after, clones_rows}
 use Rattle.std.proofs.lemmas.List.Folds.{list_any-append}
 use Rattle.rule_basics.specs.Live.{others}
 use Rattle.rule_basics.proofs.Lives.{find_is}
 use Rattle.rule_basics.proofs.Lists.{lists-append, lists-without}
 use Rattle.stack_rules.specs.Outcome.{list_no}
-use Rattle.work_laws.proofs.Hands.{Found, found_give, found_back, found_issue}
+use Rattle.work_laws.proofs.Hands.{Found, found_give, found_back}
 
 -- a list that weighed so much weighs this much after the rows
 abbrev pub Trades : Net → ℕ → ℕ → List Row → Type 0

@@ -1,5 +1,5 @@
 -- Each list that a pump works leaves less to do.
-use Rattle.std.proofs.Common.{◌≡◌, ℕ, ◌+◌, ◌-◌, ◌*◌, ◌≤◌, ◌<◌, ◌==◌, ◌&&◌, ◌||◌, Bool, true, false, List, [], ◌∷◌, ◌++◌, Option, Some, None, length, refl, arith, ap, sym, subst, ◌∙◌, ◌⊎◌, inl, inr}
+use Rattle.std.proofs.Common.{◌≡◌, ℕ, ◌+◌, ◌-◌, ◌*◌, ◌≤◌, ◌<◌, Bool, true, false, List, [], ◌∷◌, Option, Some, None, refl, arith, ap, sym, subst, ◌∙◌, ◌⊎◌, inl, inr}
 use Rattle.std.proofs.lemmas.Bool.Decides.{nat_tests}
 use Rattle.ndis_base.specs.declared.ListNo.{ListNo}
 use Rattle.ndis_base.specs.declared.ListStatus.{ListStatus}
@@ -19,23 +19,21 @@ use Rattle.stack_rules.specs.declared.LiveList.{LiveList}
 use Rattle.stack_rules.specs.declared.Stand.{Stand}
 use Rattle.stack_rules.specs.declared.Stand.TheVariants as stand
 use Rattle.stack_rules.specs.Tests.{is_down, is_running, phase_is_running, same_module}
-use Rattle.stack_rules.specs.Net.{Net, Modules, after_rows, attached, lists, list_of}
-use Rattle.stack_rules.specs.Places.{position, position_of_target, is_passed, is_clone_of}
-use Rattle.stack_rules.specs.Targets.{next_down, next_up, next_done, next_back, homeward, homeward_by, turned_back}
-use Rattle.stack_rules.specs.Sends.{ring_is_full, miniport_rows, at_filter, down_rows}
+use Rattle.stack_rules.specs.Net.{Net, attached, lists, list_of}
+use Rattle.stack_rules.specs.Places.{position, is_passed, is_clone_of}
+use Rattle.stack_rules.specs.Targets.{next_down, next_up, next_done, next_back, homeward, turned_back}
+use Rattle.stack_rules.specs.Sends.{ring_is_full, miniport_rows, at_filter}
 use Rattle.stack_rules.specs.Receives.{up_at_filter, up_rows}
-use Rattle.stack_rules.specs.Dones.{released_list, released, home_rows, completed_by, homeward_rows}
+use Rattle.stack_rules.specs.Dones.{released_list, released, completed_by, homeward_rows}
 use Rattle.stack_rules.specs.Pumps.{moved_rows}
 use Rattle.stack_rules.specs.Rewires.{is_in}
-use Rattle.stack_rules.specs.Work.{bottom, up_work, list_work, kept_work, work}
+use Rattle.stack_rules.specs.Work.{bottom, up_work, list_work, kept_work}
 use Rattle.state_laws.specs.Shape.{IsDistinct}
 use Rattle.home_laws.proofs.Known.{by_test}
 use Rattle.rule_basics.proofs.Lives.{find_is}
-use Rattle.pause_laws.proofs.Places.{position_most}
-use Rattle.work_laws.proofs.Weights.{passed_work}
 use Rattle.work_laws.proofs.Ways.{target_most, in_above, down_far, up_near, done_near, back_far}
 use Rattle.work_laws.proofs.Lowers.{IsFree, back_trades, give_trades, give_back_trades, keep_trades, home_only, home_alone, home_releases}
-use Rattle.work_laws.specs.Kept.{StopsBelow, StopsAbove, Stands, IsPlaced, IsOriginal, HasOriginal, IsOrdered}
+use Rattle.work_laws.specs.Kept.{StopsBelow, StopsAbove, Stands, IsOriginal, HasOriginal, IsOrdered}
 use Rattle.work_laws.proofs.Filters.{Lowers, onward_down, onward_up, homeward_done, homeward_back, AllLess, filter_lowers}
 use Rattle.work_laws.proofs.Deliveries.{delivery_lowers}
 

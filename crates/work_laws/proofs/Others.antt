@@ -1,11 +1,11 @@
 -- What lists that come back, are transmitted or drained add to the work, where everything stands in its place.
-use Rattle.std.proofs.Common.{◌≡◌, ℕ, ◌+◌, ◌-◌, ◌*◌, ◌≤◌, ◌<◌, ◌==◌, ◌||◌, Bool, true, false, cond, List, [], ◌∷◌, ◌++◌, Option, Some, None, refl, arith, ap, sym, subst, ◌∙◌, ◌⊎◌, inl, inr, find, map}
+use Rattle.std.proofs.Common.{◌≡◌, ℕ, ◌+◌, ◌-◌, ◌≤◌, ◌<◌, ◌==◌, ◌||◌, Bool, true, false, cond, List, [], ◌∷◌, ◌++◌, Option, Some, None, refl, arith, sym, subst, ◌⊎◌, inl, inr, find, map}
 use Rattle.std.proofs.lemmas.Bool.Decides.{nat_tests}
 use Rattle.ndis_base.specs.declared.CrossNo.{CrossNo}
 use Rattle.ndis_base.specs.declared.ListNo.{ListNo}
 use Rattle.ndis_base.specs.declared.ListStatus.{ListStatus}
 use Rattle.ndis_base.specs.declared.ListStatus.TheVariants.{Success}
-use Rattle.ndis_base.specs.declared.ModuleId.TheVariants.{Miniport, Filter, Binding}
+use Rattle.ndis_base.specs.declared.ModuleId.TheVariants.{Miniport, Binding}
 use Rattle.ndis_base.specs.declared.Direction.TheVariants as direction
 use Rattle.ndis_base.specs.declared.Origin.TheVariants as origin
 use Rattle.journal_types.specs.declared.PassWay.TheVariants as way
@@ -16,20 +16,19 @@ use Rattle.stack_rules.specs.declared.LiveList.{LiveList}
 use Rattle.stack_rules.specs.declared.Stand.TheVariants as stand
 use Rattle.stack_rules.specs.declared.Thing.TheVariants as thing
 use Rattle.stack_rules.specs.Tests.{is_down, is_virtual, phase_is_running}
-use Rattle.stack_rules.specs.Net.{Net, after, after_rows, lists, list_of, binding_numbers}
-use Rattle.stack_rules.specs.Places.{position, position_of_target, is_crossed, is_kept_by, has_clone, waits, kept_lists, ready_lists}
+use Rattle.stack_rules.specs.Net.{Net, after, lists, list_of, binding_numbers}
+use Rattle.stack_rules.specs.Places.{position, is_crossed, is_kept_by, has_clone, kept_lists, ready_lists}
 use Rattle.stack_rules.specs.Targets.{next_up, next_done, homeward}
-use Rattle.stack_rules.specs.Outcome.{Outcome, root, list_no, config_no}
-use Rattle.stack_rules.specs.Sends.{first_of, loops, transmitted, transmit_of, first_in_ring, transmit_outcome}
+use Rattle.stack_rules.specs.Outcome.{root, list_no, config_no}
+use Rattle.stack_rules.specs.Sends.{first_of, loops, transmitted, transmit_of, transmit_outcome}
 use Rattle.stack_rules.specs.Receives.{give_back_of, give_back_outcome}
 use Rattle.stack_rules.specs.Crosses.{is_in_message, done_of, done_outcome}
 use Rattle.stack_rules.specs.Pumps.{pump_moves}
 use Rattle.stack_rules.specs.Drains.{returned_by, returns_all, passes_all, empties, empties_ring, first_rows, drain_rows, drained, drain_outcome}
-use Rattle.stack_rules.specs.Work.{bottom, list_work, work}
+use Rattle.stack_rules.specs.Work.{bottom, work}
 use Rattle.rule_basics.specs.Live.{Each}
 use Rattle.rule_basics.specs.Numbers.{IsNumbered}
 use Rattle.rule_basics.proofs.Each.{Each-found}
-use Rattle.rule_basics.proofs.Numbered.{numbered_after}
 use Rattle.home_laws.proofs.Known.{by_test, Each-find, Each-first_of}
 use Rattle.work_laws.specs.Bounds.{originates, receive_room}
 use Rattle.work_laws.specs.Kept.{Stands, IsInPlace}
@@ -41,7 +40,7 @@ use Rattle.work_laws.proofs.Hands.{Found, found_issue, found_pass}
 use Rattle.work_laws.proofs.Lowers.{full_weight}
 use Rattle.work_laws.proofs.Filters.{Lowers, homeward_done}
 use Rattle.work_laws.proofs.Pumps.{IsFine, all_fine, no_clone, find_passes, pump_adds}
-use Rattle.work_laws.proofs.Drains.{IsReady, all_ready, kept_is, passing, Each-map, PassesLess, returned_less, passes_lower, returns_good, passes_good, turned_lowers, ring_work, wired_lowers}
+use Rattle.work_laws.proofs.Drains.{IsReady, all_ready, kept_is, passing, Each-map, returned_less, passes_lower, returns_good, passes_good, turned_lowers, ring_work, wired_lowers}
 
 neither : (a b : Bool) → a ≡ false → b ≡ false → (a || b) ≡ false
 neither true b e g = cc

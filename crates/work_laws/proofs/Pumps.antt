@@ -1,11 +1,10 @@
 -- Each pump that moves something leaves less to do, where everything stands in its place.
-use Rattle.std.proofs.Common.{◌≡◌, ℕ, ◌+◌, ◌≤◌, ◌==◌, ◌||◌, Bool, true, false, cond, List, [], ◌∷◌, Option, Some, None, length, refl, arith, ap, sym, subst, ◌∙◌, ◌⊎◌, inl, inr, find}
+use Rattle.std.proofs.Common.{◌≡◌, ℕ, ◌==◌, ◌||◌, Bool, true, false, cond, List, [], ◌∷◌, Option, Some, None, refl, arith, ap, sym, subst, ◌∙◌, ◌⊎◌, inl, inr, find}
 use Rattle.std.proofs.lemmas.Bool.Decides.{nat_tests}
 use Rattle.ndis_base.specs.declared.ModuleId.{ModuleId}
-use Rattle.ndis_base.specs.declared.ModuleId.TheVariants.{Miniport, Filter, Binding}
+use Rattle.ndis_base.specs.declared.ModuleId.TheVariants.{Miniport, Filter}
 use Rattle.ndis_base.specs.declared.Origin.{Origin}
 use Rattle.ndis_base.specs.declared.Origin.TheVariants as origin
-use Rattle.journal_types.specs.declared.Reply.{Reply}
 use Rattle.journal_types.specs.declared.Reply.TheVariants as reply
 use Rattle.stack_rules.specs.declared.Answered.{Answered}
 use Rattle.stack_rules.specs.declared.StatusAway.{StatusAway}
@@ -18,13 +17,13 @@ use Rattle.stack_rules.specs.declared.RequestAt.TheVariants as at
 use Rattle.stack_rules.specs.declared.Thing.{Thing}
 use Rattle.stack_rules.specs.declared.Thing.TheVariants as thing
 use Rattle.stack_rules.specs.Net.{Net, lists, list_of, request_of}
-use Rattle.stack_rules.specs.Places.{is_away, is_passed, is_clone_of, is_crossed, waits, has_clone, agenda_first}
-use Rattle.stack_rules.specs.Requests.{Giving, next_giving, giving_rows}
+use Rattle.stack_rules.specs.Places.{is_away, is_passed, is_clone_of, is_crossed, has_clone, agenda_first}
+use Rattle.stack_rules.specs.Requests.{Giving, next_giving}
 use Rattle.stack_rules.specs.Pumps.{thing_rows, request_pump, pump_of, pump_outcome}
 use Rattle.stack_rules.specs.Outcome.{Outcome}
 use Rattle.rule_basics.specs.Live.{is_live, IsApart, Each}
-use Rattle.home_laws.proofs.Known.{OfThing, thing_found}
-use Rattle.work_laws.specs.Kept.{IsPlaced, IsOriginal, HasOriginal, IsOrdered, GoesUp, IsGiven, IsAsked, EachAnswer, EachRequest, EachStatus, EachApart, IsInPlace}
+use Rattle.home_laws.proofs.Known.{thing_found}
+use Rattle.work_laws.specs.Kept.{IsPlaced, IsOriginal, HasOriginal, GoesUp, IsGiven, IsAsked, EachAnswer, EachRequest, EachStatus, EachApart, IsInPlace}
 use Rattle.work_laws.proofs.Clones.{any_clone}
 use Rattle.work_laws.proofs.Adds.{OutcomeAdds, adds_none}
 use Rattle.work_laws.proofs.Hands.{Found}

@@ -8,10 +8,33 @@ use Rattle.journal_types.specs.declared.Target.{Target}
 use Rattle.journal_types.specs.declared.Target.TheVariants.{Module, Bindings}
 use Rattle.stack_rules.specs.Net.{Modules}
 use Rattle.stack_rules.specs.Places.{above, position, position_of_target}
-use Rattle.stack_rules.specs.Targets.{has_send, has_receive, has_status, first_filter, filters_above, filters_between, next_down, next_up, next_done, next_back, next_status}
+use Rattle.stack_rules.specs.Targets.{has_send, has_receive, has_status, first_filter, filters_above, next_down, next_up, next_done, next_back, next_status}
 use Rattle.stack_rules.specs.Rewires.{is_in}
 use Rattle.state_laws.specs.Shape.{IsDistinct}
-use Rattle.pause_laws.proofs.Places.{position_most, found_or}
+
+above_most : (f : ℕ) (fs : List ℕ) → above f fs ≤ length fs
+above_most f [] = omega arith
+above_most f (g ∷ fs) = let rest = above_most f fs in elim (g == f) as (λ b. cond b 0 (above f fs + 1) ≤ length (g ∷ fs)) [ true ↦ omega arith | false ↦ omega (arith, rest) ]
+
+pub position_most : (order : List ℕ) (m : ModuleId) → position order m ≤ length order + 1
+position_most order Miniport = omega arith
+position_most order (Binding b) = omega arith
+position_most order (Filter f) = omega (arith, above_most f order)
+
+-- the filter that is found, or else the other target
+found_or : (P : Target → Type 0) (has : ℕ → Bool) (fs : List ℕ) (other : Target) → ((f : ℕ) → has f ≡ true → is_in f fs ≡ true → P (Module (Filter f))) → P other → P (first_filter has fs other)
+found_or P has [] other f o = o
+found_or P has (g ∷ fs) other f o =
+    let rest : P (first_filter has fs other) = found_or P has fs other (λ h a i. f h a (more (g == h) (is_in h fs) i)) o in
+    let cases : (b : Bool) → has g ≡ b → P (cond b (Module (Filter g)) (first_filter has fs other)) = elim [
+      | true ↦ λ t. f g t (grind (arith, nat_tests))
+      | false ↦ λ t. rest
+    ] in
+    cases (has g) refl
+  where
+    more : (a b : Bool) → b ≡ true → (a || b) ≡ true
+    more true b h = refl
+    more false b h = h
 
 pub target_most : (order : List ℕ) (to : Target) → position_of_target order to ≤ length order + 1
 target_most order (Module m) = position_most order m

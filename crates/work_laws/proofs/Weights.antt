@@ -1,6 +1,6 @@
 -- What each thing weighs where the lists of certain numbers have clones, and how each row changes the load.
-use Rattle.std.proofs.Common.{◌≡◌, ℕ, ◌+◌, ◌-◌, ◌*◌, ◌≤◌, ◌||◌, Bool, true, false, cond, List, [], ◌∷◌, ◌++◌, Option, Some, None, refl, arith, sym, subst, filter, sum_by}
-use Rattle.std.proofs.lemmas.List.Sums.{sum_by-cons, sum_by_push, sum_by-le-sum_by}
+use Rattle.std.proofs.Common.{◌≡◌, ℕ, ◌+◌, ◌-◌, ◌*◌, ◌≤◌, ◌||◌, Bool, true, false, cond, List, Option, Some, None, refl, arith, subst, sum_by}
+use Rattle.std.proofs.lemmas.List.Sums.{sum_by-le-sum_by}
 use Rattle.ndis_base.specs.declared.ModuleId.{ModuleId}
 use Rattle.ndis_base.specs.declared.ListNo.{ListNo}
 use Rattle.ndis_base.specs.declared.ListStatus.{ListStatus}
@@ -11,10 +11,8 @@ use Rattle.journal_types.specs.declared.Handler.{Handler}
 use Rattle.journal_types.specs.declared.PassWay.{PassWay}
 use Rattle.journal_types.specs.declared.PassWay.TheVariants as way
 use Rattle.journal_types.specs.declared.Target.{Target}
-use Rattle.journal_types.specs.declared.Row.{Row}
 use Rattle.journal_types.specs.declared.Row.TheVariants as row
 use Rattle.stack_rules.specs.declared.LiveList.{LiveList}
-use Rattle.stack_rules.specs.declared.Stand.{Stand}
 use Rattle.stack_rules.specs.declared.Stand.TheVariants as stand
 use Rattle.stack_rules.specs.declared.Thing.{Thing}
 use Rattle.stack_rules.specs.declared.Thing.TheVariants as thing

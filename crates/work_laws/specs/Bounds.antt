@@ -74,3 +74,28 @@ EachLowers e =
 abbrev pub EachPumpLowers : Type 0
 EachPumpLowers =
     (net : Net) (turn : Turn) → IsInPlace net → Next net turn → turn.event ≡ event.Pump → turn.reply ≡ reply.Moved → work (after_turn net turn) + 1 ≤ work net
+
+-- kinds of events
+abbrev pub is_give_back : Event → Bool
+is_give_back (event.GiveBack binding list) = true
+is_give_back _ = false
+
+abbrev pub is_done : Event → Bool
+is_done (event.CrossDone message status) = true
+is_done _ = false
+
+abbrev pub is_transmit : Event → Bool
+is_transmit event.Transmit = true
+is_transmit _ = false
+
+abbrev pub is_drain : Event → Bool
+is_drain event.Drain = true
+is_drain _ = false
+
+-- Where everything stands in its place, each turn with such an event adds at most so much.
+abbrev pub EachAddsInPlace : (Event → Bool) → (Net → ℕ) → Type 0
+EachAddsInPlace test room = (net : Net) (turn : Turn) → IsInPlace net → Next net turn → test turn.event ≡ true → work (after_turn net turn) ≤ work net + room net
+
+-- Where everything stands in its place, each such turn in which the miniport originates nothing adds nothing.
+abbrev pub EachQuietAddsNothing : (Event → Bool) → Type 0
+EachQuietAddsNothing test = (net : Net) (turn : Turn) → IsInPlace net → Next net turn → test turn.event ≡ true → originates turn.rows ≡ false → work (after_turn net turn) ≤ work net

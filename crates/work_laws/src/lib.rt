@@ -5,7 +5,7 @@
 ghost use Rattle.std.specs.Prelude.{◌*◌, ◌-◌};
 ghost use Rattle.stack_rules.specs.Work.{bottom};
 ghost use Rattle.journal_types.specs.declared.Event.TheVariants.{Drain};
-ghost use Rattle.work_laws.specs.Bounds.{is_ask, is_indication, is_pause, is_send, is_status, is_take, receive_room, send_room, EachAdds, EachLowers, EachPumpLowers};
+ghost use Rattle.work_laws.specs.Bounds.{is_ask, is_done, is_drain, is_give_back, is_indication, is_pause, is_send, is_status, is_take, is_transmit, receive_room, send_room, EachAdds, EachAddsInPlace, EachLowers, EachPumpLowers, EachQuietAddsNothing};
 
 /// Where everything stands in its place, each pump that is answered Moved lowers the work.
 pub fn pumps_lower_work()
@@ -39,4 +39,19 @@ pub fn items_add_little()
 pub fn pauses_add_nothing()
     ensures pause { EachAdds is_pause (λ net. 0) }
     ensures take { EachAdds is_take (λ net. 0) }
+{}
+
+/// Where everything stands in its place, a list that is given back adds nothing to the work, and one that
+/// is done in the other stack at most the miniport's position.
+pub fn returns_add_little()
+    ensures give_back { EachAddsInPlace is_give_back (λ net. 0) }
+    ensures done { EachAddsInPlace is_done (λ net. bottom net) }
+{}
+
+/// Where everything stands in its place, a transmit and a drain add at most as much as an indication, and
+/// a transmit in which the miniport indicates nothing adds nothing.
+pub fn transmits_add_little()
+    ensures transmit { EachAddsInPlace is_transmit receive_room }
+    ensures drain { EachAddsInPlace is_drain receive_room }
+    ensures quiet { EachQuietAddsNothing is_transmit }
 {}
