@@ -66,8 +66,8 @@ given_other net n i m a [] = omega arith
 given_other net n i m a (q ∷ rs) =
     let rest = given_other net n i m a rs in
     let cases : (b c : Bool) → (q.request.0 == n) ≡ b → (q.request.0 == i) ≡ c → holder_position net (cond ((cond b (record q { at = at.Given m }) q).request.0 == i) (Some (cond b (record q { at = at.Given m }) q)) (request_of i (map (given_to n m) rs))) ≤ holder_position net (cond c (Some q) (request_of i rs)) = elim [
-      | true ↦ elim [ | true ↦ λ s t. absurd (clash q.request.0 i n s t a) | false ↦ λ s t. rw t rest ]
-      | false ↦ elim [ | true ↦ λ s t. rw t (omega arith) | false ↦ λ s t. rw t rest ]
+      | true ↦ elim [ true ↦ λ s t. absurd (clash q.request.0 i n s t a) | false ↦ λ s t. rw t rest ]
+      | false ↦ elim [ true ↦ λ s t. rw t (omega arith) | false ↦ λ s t. rw t rest ]
     ] in
     cases (q.request.0 == n) (q.request.0 == i) refl refl
   where
