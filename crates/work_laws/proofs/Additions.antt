@@ -11,6 +11,7 @@ use Rattle.stack_rules.specs.Work.{bottom, work}
 use Rattle.rule_basics.specs.Numbers.{IsNumbered}
 use Rattle.home_laws.proofs.Standing.{lists_stand}
 use Rattle.work_laws.specs.Bounds.{send_room, receive_room, is_send, is_indication, is_status, is_ask, is_pause, is_take, EachAdds}
+use Rattle.work_laws.proofs.Lends.{lend_adds}
 use Rattle.work_laws.proofs.Adds.{Adds, send_adds, put_adds, indicate_adds, put_up_adds, status_adds, ask_adds, take_adds, begin_adds, pause_adds}
 
 abbrev EventAdds : (Event → Bool) → (Net → ℕ) → Type 0
@@ -32,6 +33,7 @@ sends net _ reply rows choice h q e = cc
 
 indications : EventAdds is_indication receive_room
 indications net (event.Indicate frames) reply rows choice h q e = by net (receive_room net) rows _ e (indicate_adds net frames h)
+indications net (event.Lend frames) reply rows choice h q e = by net (receive_room net) rows _ e (lend_adds net frames h)
 indications net (event.CrossPutUp stack message frames) reply rows choice h q e = by net (receive_room net) rows _ e (put_up_adds net stack message frames h)
 indications net _ reply rows choice h q e = cc
 

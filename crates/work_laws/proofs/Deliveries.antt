@@ -101,7 +101,7 @@ delivered_most net cloned l list frames own (b ∷ bs) n s e h f k =
     ] in
     cases (echoes net b) refl
 
-after_rows-append : (net : Net) (rows others : List Row) → after_rows net (rows ++ others) ≡ after_rows (after_rows net rows) others
+pub after_rows-append : (net : Net) (rows others : List Row) → after_rows net (rows ++ others) ≡ after_rows (after_rows net rows) others
 after_rows-append net [] others = refl
 after_rows-append net (r ∷ rows) others = after_rows-append (after net r) rows others
 

@@ -1,6 +1,6 @@
 -- Each drain that moves something, and in which no loop adapter indicates, leaves less to do, where everything
 -- stands in its place.
-use Rattle.std.proofs.Common.{◌≡◌, ℕ, ◌+◌, ◌-◌, ◌*◌, ◌≤◌, ◌==◌, ◌||◌, not, Bool, true, false, cond, List, [], ◌∷◌, ◌++◌, Option, Some, None, length, refl, arith, ap, sym, subst, ◌∙◌, ◌⊎◌, inl, inr, filter, map}
+use Rattle.std.proofs.Common.{◌≡◌, ℕ, ◌+◌, ◌-◌, ◌*◌, ◌≤◌, ◌==◌, ◌&&◌, ◌||◌, not, Bool, true, false, cond, List, [], ◌∷◌, ◌++◌, Option, Some, None, length, refl, arith, ap, sym, subst, ◌⊎◌, inl, inr, filter, map}
 use Rattle.std.proofs.lemmas.Bool.Decides.{nat_tests}
 use Rattle.ndis_base.specs.declared.ListStatus.TheVariants.{Success, Paused}
 use Rattle.ndis_base.specs.declared.ModuleId.{ModuleId}
@@ -15,9 +15,9 @@ use Rattle.stack_rules.specs.declared.Stand.{Stand}
 use Rattle.stack_rules.specs.declared.Stand.TheVariants as stand
 use Rattle.stack_rules.specs.declared.Thing.{Thing}
 use Rattle.stack_rules.specs.declared.Thing.TheVariants as thing
-use Rattle.stack_rules.specs.Tests.{is_down, is_retain, is_virtual, phase_is_running}
+use Rattle.stack_rules.specs.Tests.{is_down, is_loop, is_retain, is_virtual, phase_is_running}
 use Rattle.stack_rules.specs.Net.{Net, after, after_rows, lists, list_of, passed, kind_of_binding, binding_numbers}
-use Rattle.stack_rules.specs.Places.{position, waits, is_kept_by, has_clone, kept_lists, ready_lists}
+use Rattle.stack_rules.specs.Places.{position, is_full, waits, is_kept_by, has_clone, kept_lists, ready_lists}
 use Rattle.stack_rules.specs.Targets.{next_down, next_up, next_done, next_back, homeward, turned_back}
 use Rattle.stack_rules.specs.Sends.{first_of, loops, transmitted}
 use Rattle.stack_rules.specs.Cancels.{holds_lists}
@@ -242,13 +242,20 @@ wired_lowers net l n r =
     subst (λ (r : Row). Lowers net (row.Wire l.list l.frames ∷ r ∷ [])) (sym (homeward_done net.modules l.list l.owner l.direction i Success ring.0)) (omega (arith, above, near, moved, full, most, start, old))
 
 -- rows in which the miniport originates nothing are none, or lower the work
+abbrev pub IsStill : Net → List Row → Type 0
+IsStill net rows = (originates rows ≡ false) ⊎ (loops net ≡ false)
+
 abbrev Good : Net → List Row → Type 0
-Good net rows = originates rows ≡ false → (rows ≡ []) ⊎ Lowers net rows
+Good net rows = IsStill net rows → (rows ≡ []) ⊎ Lowers net rows
 
 transmitted_good : (net : Net) (l : LiveList) → IsNumbered net → IsReady net Miniport l → Good net (transmitted net l)
 transmitted_good net l n r =
     let last : Row = homeward net.modules l (position net.modules.order Miniport) Success in
-    by_test (λ rows. Good net (row.Wire l.list l.frames ∷ (rows ++ last ∷ []))) (loops net) _ _ (λ _ q. cc) (λ _ q. inr (wired_lowers net l n r))
+    by_test (λ rows. Good net (row.Wire l.list l.frames ∷ (rows ++ last ∷ []))) (loops net) _ _ (λ t q. absurd (neither t q)) (λ _ q. inr (wired_lowers net l n r))
+  where
+    neither : loops net ≡ true → (true ≡ false) ⊎ (loops net ≡ false) → ⊥
+    neither t (inl e) = cc
+    neither t (inr e) = cc
 
 empties_good : (net : Net) (o : Option LiveList) → IsNumbered net → ((l : LiveList) → o ≡ Some l → IsReady net Miniport l) → Good net (empties net o)
 empties_good net None n r = λ q. inl refl
@@ -285,7 +292,7 @@ drain_good net h =
     (EachGood-append net returns (passes ++ empties_ring net ∷ []) (EachGood-map net (returns_all net) (λ b. returns_good net b h) (binding_numbers net.head))
     (EachGood-append net passes (empties_ring net ∷ []) (EachGood-map net (passes_all net) (λ f. passes_good net f h) net.modules.order) (ring_good net h, tt)))
 
-drained_lowers : (net : Net) (rows : List Row) → Good net rows → originates rows ≡ false → MovedLowers net (drained rows)
+drained_lowers : (net : Net) (rows : List Row) → Good net rows → IsStill net rows → MovedLowers net (drained rows)
 drained_lowers net [] g q m = cc
 drained_lowers net (r ∷ rows) g q m = some (g q)
   where
@@ -297,8 +304,17 @@ drained_rows : (rows : List Row) → (drained rows).rows ≡ rows
 drained_rows [] = refl
 drained_rows (r ∷ rows) = refl
 
-pub drain_lowers : (net : Net) (keeps : Bool) → IsInPlace net → originates (drain_outcome net keeps).rows ≡ false → MovedLowers net (drain_outcome net keeps)
+pub drain_lowers : (net : Net) (keeps : Bool) → IsInPlace net → IsStill net (drain_outcome net keeps).rows → MovedLowers net (drain_outcome net keeps)
 drain_lowers net keeps h =
-    by_test (λ o. originates o.rows ≡ false → MovedLowers net o) (pump_moves net) _ _
+    by_test (λ o. IsStill net o.rows → MovedLowers net o) (pump_moves net) _ _
     (λ _ q. pump_lowers net keeps h)
-    (λ _ q. drained_lowers net (drain_rows net) (drain_good net h) (sym (ap originates (drained_rows (drain_rows net))) ∙ q))
+    (λ _ q. drained_lowers net (drain_rows net) (drain_good net h) (subst (IsStill net) (drained_rows (drain_rows net)) q))
+
+-- a loop adapter indicates only while the stack runs
+pub loops_running : (net : Net) → phase_is_running net.phase ≡ false → loops net ≡ false
+loops_running net e = parts (is_loop net.head.kind) (phase_is_running net.phase) (not (is_full net Miniport)) e
+  where
+    parts : (a b c : Bool) → b ≡ false → (a && (b && c)) ≡ false
+    parts true true c e = cc
+    parts true false c e = refl
+    parts false b c e = refl

@@ -3,11 +3,12 @@ pub mod Weights
 pub mod Clones
 pub mod Ways
 pub mod Adds
-pub mod Additions
 pub mod Hands
 pub mod Lowers
 pub mod Filters
 pub mod Deliveries
+pub mod Lends
+pub mod Additions
 pub mod Moves
 pub mod Items
 pub mod Givings

@@ -270,14 +270,15 @@ or_first true b e h = refl
 or_first false b e h = cc
 
 -- which lists still have a clone
-stay_home : (net : Net) (l : LiveList) (owner : ModuleId) (status : ListStatus) (cloned : ℕ → Bool) → IsFree net l → ((n : ℕ) → cloned n ≡ true → (has_clone net n ≡ true) × (is_clone_of n l.origin ≡ false)) →
+pub stay_home : (net : Net) (l : LiveList) (owner : ModuleId) (status : ListStatus) (cloned : ℕ → Bool) → IsNumbered net → Found net l → ((n : ℕ) → cloned n ≡ true → (has_clone net n ≡ true) × (is_clone_of n l.origin ≡ false)) →
     Stay cloned (has_clone (after net (row.Home l.list owner status)))
-stay_home net l owner status cloned h f n t =
-    ap (any_clone n) (lists-without l.list.0 net.things) ∙ or_first (any_clone n (others l.list.0 (lists net.things))) (is_clone_of n l.origin) (f n t).1 (taken_any n l.list.0 (lists net.things) l h.numbered.apart h.found (f n t).0)
+stay_home net l owner status cloned h g f n t =
+    ap (any_clone n) (lists-without l.list.0 net.things)
+    ∙ or_first (any_clone n (others l.list.0 (lists net.things))) (is_clone_of n l.origin) (f n t).1 (taken_any n l.list.0 (lists net.things) l h.apart g (f n t).0)
 
 pub home_only : (net : Net) (l : LiveList) (owner : ModuleId) (status : ListStatus) → IsFree net l → ((n : ℕ) → is_clone_of n l.origin ≡ false) → Trades net (list_work net l l.stand) 0 (row.Home l.list owner status ∷ [])
 home_only net l owner status h none =
-    let stay : Stay (has_clone net) (has_clone (after net (row.Home l.list owner status))) = stay_home net l owner status (has_clone net) h (λ n t. (t, none n)) in
+    let stay : Stay (has_clone net) (has_clone (after net (row.Home l.list owner status))) = stay_home net l owner status (has_clone net) h.numbered h.found (λ n t. (t, none n)) in
     let gone = load_gone net (has_clone net) l.list owner status l h.found in
     let most = work_after (after net (row.Home l.list owner status)) (has_clone net) stay in
     let least = work_least net in
@@ -307,7 +308,7 @@ none_others n m (x ∷ ls) h =
 pub home_alone : (net : Net) (l : LiveList) (owner : ModuleId) (status : ListStatus) (o : ListNo) → IsFree net l → l.origin ≡ origin.Clone o → list_of o.0 (lists net.things) ≡ None → Trades net (list_work net l l.stand) 0 (row.Home l.list owner status ∷ [])
 home_alone net l owner status o h e none =
     let next : Net = after net (row.Home l.list owner status) in
-    let stay : Stay (but (has_clone net) o.0) (has_clone next) = stay_home net l owner status (but (has_clone net) o.0) h (clone_stays net l o e) in
+    let stay : Stay (but (has_clone net) o.0) (has_clone next) = stay_home net l owner status (but (has_clone net) o.0) h.numbered h.found (clone_stays net l o e) in
     let out : list_of o.0 (lists next.things) ≡ None = ap (list_of o.0) (lists-without l.list.0 net.things) ∙ none_others o.0 l.list.0 (lists net.things) none in
     let same : sum_by (weight next (but (has_clone net) o.0)) (without o.0 next.things) ≡ sum_by (weight next (but (has_clone net) o.0)) next.things = ap (sum_by (weight next (but (has_clone net) o.0))) (none_without o.0 next.things out) in
     let less : sum_by (weight next (but (has_clone net) o.0)) (without o.0 next.things) ≤ sum_by (weight next (has_clone net)) next.things = others_weigh next (has_clone net) o.0 next.things in
@@ -325,7 +326,7 @@ home_releases net l owner status o list way to h e same =
     let next : Net = after net (row.Home l.list owner status) in
     let last : Net = after next (row.Pass list way to) in
     let numbered : IsNumbered next = numbered_after net (row.Home l.list owner status) tt h.numbered in
-    let first : Stay cloned (has_clone next) = stay_home net l owner status cloned h (clone_stays net l o e) in
+    let first : Stay cloned (has_clone next) = stay_home net l owner status cloned h.numbered h.found (clone_stays net l o e) in
     let second : Stay (has_clone next) (has_clone last) = clones_after next (row.Pass list way to) numbered refl in
     let most = work_after last cloned (λ n t. second n (first n t)) in
     let back : sum_by (weight next cloned) last.things ≤ sum_by (weight next cloned) (without list.0 next.things) + passed_work net way to =

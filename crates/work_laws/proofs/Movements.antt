@@ -1,5 +1,5 @@
 -- Each pump and each drain that moves something lowers the work, where everything stands in its place.
-use Rattle.std.proofs.Common.{◌≡◌, ℕ, ◌+◌, ◌≤◌, Bool, true, false, List, arith, ap, sym, subst, ◌∙◌}
+use Rattle.std.proofs.Common.{◌≡◌, ℕ, ◌+◌, ◌≤◌, Bool, true, false, List, arith, inl, inr, ap, sym, subst, ◌∙◌}
 use Rattle.journal_types.specs.declared.Event.{Event}
 use Rattle.journal_types.specs.declared.Event.TheVariants as event
 use Rattle.journal_types.specs.declared.Reply.{Reply}
@@ -10,10 +10,10 @@ use Rattle.stack_rules.specs.Net.{Net, after_rows, told}
 use Rattle.stack_rules.specs.Sound.{outcome}
 use Rattle.stack_rules.specs.Work.{work}
 use Rattle.work_laws.specs.Kept.{IsInPlace}
-use Rattle.work_laws.specs.Bounds.{receive_room, is_give_back, is_done, is_transmit, is_drain, originates, EachLowers, EachPumpLowers, EachAddsInPlace, EachQuietAddsNothing}
+use Rattle.work_laws.specs.Bounds.{EachLowersWhileStill, receive_room, is_give_back, is_done, is_transmit, is_drain, originates, EachLowers, EachPumpLowers, EachAddsInPlace, EachQuietAddsNothing}
 use Rattle.work_laws.proofs.Filters.{Lowers}
 use Rattle.work_laws.proofs.Pumps.{pump_lowers}
-use Rattle.work_laws.proofs.Drains.{drain_lowers}
+use Rattle.work_laws.proofs.Drains.{IsStill, drain_lowers, loops_running}
 use Rattle.stack_rules.specs.Work.{bottom}
 use Rattle.work_laws.proofs.Adds.{Adds}
 use Rattle.work_laws.proofs.Others.{give_back_adds, done_adds, transmit_adds, drain_adds}
@@ -22,15 +22,18 @@ pumped : (net : Net) (e : Event) (r : Reply) (rows : List Row) (choice : Choice)
 pumped net event.Pump r rows choice h e a b m = subst (Lowers net) (sym b) (pump_lowers net choice.keeps h (sym a ∙ m))
 pumped net _ r rows choice h e a b m = cc
 
-drained : (net : Net) (e : Event) (r : Reply) (rows : List Row) (choice : Choice) → IsInPlace net → e ≡ event.Drain → r ≡ (outcome net e choice).reply → rows ≡ (outcome net e choice).rows → r ≡ reply.Moved → originates rows ≡ false → work (after_rows (told net e r) rows) + 1 ≤ work net
-drained net event.Drain r rows choice h e a b m q = subst (Lowers net) (sym b) (drain_lowers net choice.keeps h (ap originates (sym b) ∙ q) (sym a ∙ m))
+drained : (net : Net) (e : Event) (r : Reply) (rows : List Row) (choice : Choice) → IsInPlace net → e ≡ event.Drain → r ≡ (outcome net e choice).reply → rows ≡ (outcome net e choice).rows → r ≡ reply.Moved → IsStill net rows → work (after_rows (told net e r) rows) + 1 ≤ work net
+drained net event.Drain r rows choice h e a b m q = subst (Lowers net) (sym b) (drain_lowers net choice.keeps h (subst (IsStill net) b q) (sym a ∙ m))
 drained net _ r rows choice h e a b m q = cc
 
 pub each_pump : EachPumpLowers
 each_pump net turn h n e m = pumped net turn.event turn.reply turn.rows n.choice h e n.reply n.rows m
 
 pub each_drain : EachLowers event.Drain
-each_drain net turn h n e m q = drained net turn.event turn.reply turn.rows n.choice h e n.reply n.rows m q
+each_drain net turn h n e m q = drained net turn.event turn.reply turn.rows n.choice h e n.reply n.rows m (inl q)
+
+pub each_still_drain : EachLowersWhileStill event.Drain
+each_still_drain net turn h still n e m = drained net turn.event turn.reply turn.rows n.choice h e n.reply n.rows m (inr (loops_running net still))
 
 -- what other events add
 abbrev AddsInPlace : (Event → Bool) → (Net → ℕ) → Type 0

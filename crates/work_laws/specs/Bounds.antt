@@ -8,7 +8,7 @@ use Rattle.std.specs.List.{list_any}
 use Rattle.journal_types.specs.declared.Reply.TheVariants as reply
 use Rattle.journal_types.specs.declared.Row.{Row}
 use Rattle.journal_types.specs.declared.Row.TheVariants as row
-use Rattle.stack_rules.specs.Tests.{is_miniport}
+use Rattle.stack_rules.specs.Tests.{is_miniport, phase_is_running}
 use Rattle.stack_rules.specs.Net.{Net, after_turn, seen}
 use Rattle.work_laws.specs.Kept.{IsInPlace}
 use Rattle.stack_rules.specs.Sound.{Next, Sound}
@@ -30,6 +30,7 @@ is_send _ = false
 
 abbrev pub is_indication : Event → Bool
 is_indication (event.Indicate frames) = true
+is_indication (event.Lend frames) = true
 is_indication (event.CrossPutUp stack message frames) = true
 is_indication _ = false
 
@@ -70,6 +71,11 @@ abbrev pub EachLowers : Event → Type 0
 EachLowers e =
     (net : Net) (turn : Turn) → IsInPlace net → Next net turn → turn.event ≡ e → turn.reply ≡ reply.Moved → originates turn.rows ≡ false →
     work (after_turn net turn) + 1 ≤ work net
+
+-- while the stack doesn't run, the miniport originates nothing
+abbrev pub EachLowersWhileStill : Event → Type 0
+EachLowersWhileStill e =
+    (net : Net) (turn : Turn) → IsInPlace net → phase_is_running net.phase ≡ false → Next net turn → turn.event ≡ e → turn.reply ≡ reply.Moved → work (after_turn net turn) + 1 ≤ work net
 
 abbrev pub EachPumpLowers : Type 0
 EachPumpLowers =

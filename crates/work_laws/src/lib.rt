@@ -5,7 +5,7 @@
 ghost use Rattle.std.specs.Prelude.{◌*◌, ◌-◌};
 ghost use Rattle.stack_rules.specs.Work.{bottom};
 ghost use Rattle.journal_types.specs.declared.Event.TheVariants.{Drain};
-ghost use Rattle.work_laws.specs.Bounds.{is_ask, is_done, is_drain, is_give_back, is_indication, is_pause, is_send, is_status, is_take, is_transmit, receive_room, send_room, EachAdds, EachAddsInPlace, EachLowers, EachPumpLowers, EachQuietAddsNothing};
+ghost use Rattle.work_laws.specs.Bounds.{is_ask, is_done, is_drain, is_give_back, is_indication, is_pause, is_send, is_status, is_take, is_transmit, receive_room, send_room, EachAdds, EachAddsInPlace, EachLowers, EachLowersWhileStill, EachPumpLowers, EachQuietAddsNothing};
 
 /// Where everything stands in its place, each pump that is answered Moved lowers the work.
 pub fn pumps_lower_work()
@@ -13,9 +13,10 @@ pub fn pumps_lower_work()
 {}
 
 /// Where everything stands in its place, each drain that is answered Moved lowers the work, but one in
-/// which the miniport indicates what it transmits.
+/// which the miniport indicates what it transmits, which it does only while the stack runs.
 pub fn drains_lower_work()
-    ensures { EachLowers Drain }
+    ensures lowers { EachLowers Drain }
+    ensures still { EachLowersWhileStill Drain }
 {}
 
 /// A send, also one from another stack, adds at most three times the miniport's position to the work.
@@ -23,8 +24,8 @@ pub fn sends_add_little()
     ensures { EachAdds is_send send_room }
 {}
 
-/// A list that the miniport indicates and keeps its hold of adds at most three times the miniport's
-/// position, and as much again for each echo binding while the stack runs.
+/// A list that the miniport indicates or lends adds at most three times the miniport's position, and as
+/// much again for each echo binding while the stack runs.
 pub fn indications_add_little()
     ensures { EachAdds is_indication receive_room }
 {}
