@@ -1,0 +1,107 @@
+-- How much each event may add to the work.
+use Rattle.std.specs.Prelude.{◌≡◌, ℕ, ◌+◌, ◌*◌, ◌≤◌, Bool, true, false, List}
+use Rattle.journal_types.specs.declared.Event.{Event}
+use Rattle.journal_types.specs.declared.Event.TheVariants as event
+use Rattle.journal_types.specs.declared.StackHead.{StackHead}
+use Rattle.journal_types.specs.declared.Turn.{Turn}
+use Rattle.std.specs.List.{list_any}
+use Rattle.journal_types.specs.declared.Reply.TheVariants as reply
+use Rattle.journal_types.specs.declared.Row.{Row}
+use Rattle.journal_types.specs.declared.Row.TheVariants as row
+use Rattle.stack_rules.specs.Tests.{is_miniport, phase_is_running}
+use Rattle.stack_rules.specs.Net.{Net, after_turn, seen}
+use Rattle.work_laws.specs.Kept.{IsInPlace}
+use Rattle.stack_rules.specs.Sound.{Next, Sound}
+use Rattle.stack_rules.specs.Work.{bottom, echo_count, work}
+
+-- a send goes down, and comes back done
+abbrev pub send_room : Net → ℕ
+send_room net = 3 * bottom net
+
+-- a receive goes up, is sent by each echo binding, and comes back
+abbrev pub receive_room : Net → ℕ
+receive_room net = 3 * bottom net * (1 + echo_count net)
+
+-- kinds of events
+abbrev pub is_send : Event → Bool
+is_send (event.Send binding cancel frames) = true
+is_send (event.CrossPut stack message vlan frames) = true
+is_send _ = false
+
+abbrev pub is_indication : Event → Bool
+is_indication (event.Indicate frames) = true
+is_indication (event.Lend frames) = true
+is_indication (event.CrossPutUp stack message frames) = true
+is_indication _ = false
+
+abbrev pub is_status : Event → Bool
+is_status (event.Status name) = true
+is_status _ = false
+
+abbrev pub is_ask : Event → Bool
+is_ask (event.Ask binding kind code value) = true
+is_ask _ = false
+
+abbrev pub is_pause : Event → Bool
+is_pause event.BeginPause = true
+is_pause event.PauseNext = true
+is_pause _ = false
+
+abbrev pub is_take : Event → Bool
+is_take event.CrossTake = true
+is_take _ = false
+
+-- After every sound journal each turn with such an event adds at most so much.
+abbrev pub EachAdds : (Event → Bool) → (Net → ℕ) → Type 0
+EachAdds test room =
+    (head : StackHead) (turns : List Turn) (turn : Turn) → Sound head turns → Next (seen head turns) turn → test turn.event ≡ true →
+    work (after_turn (seen head turns) turn) ≤ work (seen head turns) + room (seen head turns)
+
+-- the miniport issues a list: it indicates what it transmits
+abbrev pub is_originated : Row → Bool
+is_originated (row.Issue list owner config direction cancel origin frames) = is_miniport owner
+is_originated _ = false
+
+abbrev pub originates : List Row → Bool
+originates rows = list_any is_originated rows
+
+-- Where everything stands in its place, each such turn that is answered Moved, and in which the miniport
+-- originates nothing, lowers the work.
+abbrev pub EachLowers : Event → Type 0
+EachLowers e =
+    (net : Net) (turn : Turn) → IsInPlace net → Next net turn → turn.event ≡ e → turn.reply ≡ reply.Moved → originates turn.rows ≡ false →
+    work (after_turn net turn) + 1 ≤ work net
+
+-- while the stack doesn't run, the miniport originates nothing
+abbrev pub EachLowersWhileStill : Event → Type 0
+EachLowersWhileStill e =
+    (net : Net) (turn : Turn) → IsInPlace net → phase_is_running net.phase ≡ false → Next net turn → turn.event ≡ e → turn.reply ≡ reply.Moved → work (after_turn net turn) + 1 ≤ work net
+
+abbrev pub EachPumpLowers : Type 0
+EachPumpLowers =
+    (net : Net) (turn : Turn) → IsInPlace net → Next net turn → turn.event ≡ event.Pump → turn.reply ≡ reply.Moved → work (after_turn net turn) + 1 ≤ work net
+
+-- kinds of events
+abbrev pub is_give_back : Event → Bool
+is_give_back (event.GiveBack binding list) = true
+is_give_back _ = false
+
+abbrev pub is_done : Event → Bool
+is_done (event.CrossDone message status) = true
+is_done _ = false
+
+abbrev pub is_transmit : Event → Bool
+is_transmit event.Transmit = true
+is_transmit _ = false
+
+abbrev pub is_drain : Event → Bool
+is_drain event.Drain = true
+is_drain _ = false
+
+-- Where everything stands in its place, each turn with such an event adds at most so much.
+abbrev pub EachAddsInPlace : (Event → Bool) → (Net → ℕ) → Type 0
+EachAddsInPlace test room = (net : Net) (turn : Turn) → IsInPlace net → Next net turn → test turn.event ≡ true → work (after_turn net turn) ≤ work net + room net
+
+-- Where everything stands in its place, each such turn in which the miniport originates nothing adds nothing.
+abbrev pub EachQuietAddsNothing : (Event → Bool) → Type 0
+EachQuietAddsNothing test = (net : Net) (turn : Turn) → IsInPlace net → Next net turn → test turn.event ≡ true → originates turn.rows ≡ false → work (after_turn net turn) ≤ work net
