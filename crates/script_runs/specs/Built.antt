@@ -16,6 +16,7 @@ use Rattle.script_types.specs.declared.StackSetup.{StackSetup}
 use Rattle.script_types.specs.declared.FilterSetup.{FilterSetup}
 use Rattle.script_types.specs.declared.Call.{Call}
 use Rattle.script_events.specs.Events.{event_of}
+use Rattle.script_runs.specs.Laws.{MeetsLaws}
 
 -- the head of the journal of a script's only stack
 abbrev pub head_of : StackSetup → StackHead
@@ -56,9 +57,10 @@ are_built _ calls = false
 abbrev pub is_built : Script → Bool
 is_built s = (s.lanes == 1) && are_built s.stacks s.calls
 
--- the journal of a run: of the script's stack, and sound
+-- the journal of a run: of the script's stack, and sound; it ends Halted, and meets the laws
 pub record IsRun (script : Script) (head : StackHead) (turns : List Turn) : Type 0 where
   pub stack : StackSetup
   pub only : script.stacks ≡ stack ∷ []
   pub head_is : head ≡ head_of stack
   pub sound : Sound head turns
+  pub laws : MeetsLaws head turns
