@@ -3,6 +3,7 @@
 #![tactic(auto)]
 
 ghost use Rattle.std.specs.Prelude.{◌≡◌, [], IfOk, IfSome, OnOk, true};
+ghost use Rattle.ndis_base.specs.declared.Phase.TheVariants as Phase;
 ghost use Rattle.stack_rules.specs.Net.{seen};
 ghost use Rattle.stack_rules.specs.Sound.{Sound};
 ghost use Rattle.law_rows.specs.Laws.{MeetsLaws};
@@ -91,6 +92,27 @@ fn walk_all(alloc: Global, stack: WalkedStack) -> Result<Option<WalkedStack>, Ou
     Ok(Some(stack))
 }
 
+fn is_halted(phase: Phase) -> bool
+    ensures { result ≡ true → phase ≡ Phase.Halted }
+{
+    matches!(phase, Phase::Halted)
+}
+
+/// Each law holds of a sound journal that ends Halted.
+fn see_laws(stack: &WalkedStack)
+    requires sound { Sound stack.now.head stack.now.turns }
+    requires halted { (seen stack.now.head stack.now.turns).phase ≡ Phase.Halted }
+    ensures { MeetsLaws stack.now.head stack.now.turns }
+{
+    lists_issued_once();
+    lists_home_once();
+    frames_as_issued();
+    paused_holds_nothing();
+    halted_stack_is_empty();
+    each_is_home_when_halted();
+    the_state_stands();
+}
+
 /// The journal of one frame that is sent: it is sound, and each law holds of it. There is none where
 /// an event may not be asked or the stack isn't Halted at the end, which the test below sees not to
 /// be so.
@@ -102,16 +124,10 @@ pub fn one_frame(alloc: Global) -> Result<Option<WalkedStack>, OutOfMemory>
     let Some(stack) = walk_all(alloc, stack)? else {
         return Ok(None);
     };
-    if stack.phase()? != Phase::Halted {
+    if !is_halted(stack.phase()?) {
         return Ok(None);
     }
-    lists_issued_once();
-    lists_home_once();
-    frames_as_issued();
-    paused_holds_nothing();
-    halted_stack_is_empty();
-    each_is_home_when_halted();
-    the_state_stands();
+    see_laws(&stack);
     Ok(Some(stack))
 }
 
