@@ -1,6 +1,6 @@
 //! The calls of drivers that rows stand for.
 ghost use Rattle.std.specs.Prelude.{◌≡◌, ◌++◌, [], IfOk, option_copied};
-ghost use Rattle.promise_rules.specs.Rows.{first_row};
+ghost use Rattle.promise_rules.specs.Rows.{first_row, issue_of};
 ghost use Rattle.promise_rules.specs.Completions.{gives};
 ghost use Rattle.promise_rules.specs.Calls.{asks, call, called_by, received_as, direction_in, home_call, holder_call, asker_call, calls_at};
 
@@ -79,6 +79,18 @@ fn home_call(alloc: Global, owner: ModuleId, direction: Direction) -> Result<Vec
     }
 }
 
+/// The list of this number came home to its owner.
+fn came_home(
+    alloc: Global,
+    turns: &[Turn],
+    owner: ModuleId,
+    n: u64,
+) -> Result<Vec<Call>, OutOfMemory>
+    ensures { IfOk result (λ calls. calls.items ≡ home_call owner (direction_in (issue_of turns.now n))) }
+{
+    home_call(alloc, owner, direction_in(issue_of(turns, n)))
+}
+
 /// A filter that was given the request completes it.
 fn holder_call(alloc: Global, give: Option<&Row>) -> Result<Vec<Call>, OutOfMemory>
     ensures { IfOk result (λ calls. calls.items ≡ holder_call (option_copied give.entry)) }
@@ -135,9 +147,7 @@ pub fn calls_at(alloc: Global, turns: &[Turn], row: &Row) -> Result<Vec<Call>, O
             handler,
             ..
         } => call(alloc, *module, called_by(*handler)),
-        Row::Home { list, owner, .. } => {
-            home_call(alloc, *owner, direction_in(issue_of(turns, list.0)))
-        }
+        Row::Home { list, owner, .. } => came_home(alloc, turns, *owner, list.0),
         Row::Deliver { binding, how, .. } => {
             call(alloc, ModuleId::Binding(*binding), received_as(*how))
         }

@@ -1,5 +1,5 @@
 -- The test that each kind of wanted rows stands for.
-use Rattle.std.specs.Prelude.{ℕ, Bool, List}
+use Rattle.std.specs.Prelude.{Bool, List}
 use Rattle.journal_types.specs.declared.Row.{Row}
 use Rattle.journal_types.specs.declared.Turn.{Turn}
 use Rattle.promise_rules.specs.Rows.{is_issue, is_home}
