@@ -7,102 +7,90 @@ use Rattle.journal_types.specs.declared.Event.TheVariants as event
 use Rattle.journal_types.specs.declared.Reply.{Reply}
 use Rattle.journal_types.specs.declared.Reply.TheVariants as reply
 use Rattle.script_types.specs.declared.FilterSetup.{FilterSetup}
+use Rattle.promise_rules.specs.declared.Opening.{Opening}
+use Rattle.promise_rules.specs.declared.Opening.TheVariants.{Initialising, Inserting, Opened}
+use Rattle.promise_rules.specs.declared.Ending.{Ending}
+use Rattle.promise_rules.specs.declared.Ending.TheVariants as ending
 
--- what the opening has still to do: to initialise, to insert filters above so many that are attached, to
--- restart until the stack runs, and nothing
-pub data Opening : Type 0 where
-  initialising : List FilterSetup → Opening
-  inserting : ℕ → FilterSetup → List FilterSetup → Opening
-  starting : Opening
-  opened : Opening
+-- what the opening asks next, where these filters are left
+abbrev pub opening_event : Opening → List FilterSetup → Option Event
+opening_event Initialising filters = Some event.Initialize
+opening_event (Inserting attached) (filter ∷ more) = Some (event.Insert filter.kind (attached + 1) filter.setup)
+opening_event (Inserting attached) [] = Some event.RestartNext
+opening_event Opened filters = None
 
--- what the ending has still to do: a stack that is pausing or doesn't run is brought to run again, all is
--- pumped, it is paused, all is pumped, and it is halted
-pub data Ending : Type 0 where
-  pausing_first : Ending
-  draining_first : Ending
-  restarting : Ending
-  pumping : Ending
-  beginning_pause : Ending
-  pausing : Ending
-  draining : Ending
-  pumping_last : Ending
-  halting : Ending
-  ended : Ending
+-- where the initialisation is refused, the opening stops there
+abbrev pub initialised : Reply → Opening
+initialised (reply.Refused cause) = Opened
+initialised _ = Inserting 0
 
-abbrev pub opening_event : Opening → Option Event
-opening_event (initialising filters) = Some event.Initialize
-opening_event (inserting attached filter more) = Some (event.Insert filter.kind (attached + 1) filter.setup)
-opening_event starting = Some event.RestartNext
-opening_event opened = None
+abbrev pub inserted : ℕ → Reply → Opening
+inserted attached (reply.Inserted f) = Inserting (attached + 1)
+inserted attached _ = Inserting attached
 
-abbrev pub inserting_next : ℕ → List FilterSetup → Opening
-inserting_next attached [] = starting
-inserting_next attached (f ∷ fs) = inserting attached f fs
+abbrev pub started : ℕ → Reply → Opening
+started attached reply.Running = Opened
+started attached _ = Inserting attached
 
-abbrev pub initialised : List FilterSetup → Reply → Opening
-initialised filters reply.Ok = inserting_next 0 filters
-initialised filters _ = opened
+abbrev pub opening_after : Opening → List FilterSetup → Reply → Opening
+opening_after Initialising filters told = initialised told
+opening_after (Inserting attached) (filter ∷ more) told = inserted attached told
+opening_after (Inserting attached) [] told = started attached told
+opening_after Opened filters told = Opened
 
-abbrev pub inserted : ℕ → List FilterSetup → Reply → Opening
-inserted attached more (reply.Inserted f) = inserting_next (attached + 1) more
-inserted attached more _ = inserting_next attached more
+abbrev pub filters_after : Opening → List FilterSetup → List FilterSetup
+filters_after (Inserting attached) (filter ∷ more) = more
+filters_after (Inserting attached) [] = []
+filters_after Initialising filters = filters
+filters_after Opened filters = filters
 
-abbrev pub started : Reply → Opening
-started reply.Running = opened
-started _ = starting
-
-abbrev pub opening_after : Opening → Reply → Opening
-opening_after (initialising filters) told = initialised filters told
-opening_after (inserting attached filter more) told = inserted attached more told
-opening_after starting told = started told
-opening_after opened told = opened
-
+-- how the ending of a stack in this phase begins; a halted stack has none
 abbrev pub ending_of : Phase → Ending
-ending_of phase.Halted = ended
-ending_of phase.Pausing = pausing_first
-ending_of phase.Paused = restarting
-ending_of phase.Restarting = restarting
-ending_of phase.Running = pumping
+ending_of phase.Halted = ending.Ended
+ending_of phase.Pausing = ending.PausingFirst
+ending_of phase.Paused = ending.Restarting
+ending_of phase.Restarting = ending.Restarting
+ending_of phase.Running = ending.Pumping
 
 abbrev pub ending_event : Ending → Option Event
-ending_event pausing_first = Some event.PauseNext
-ending_event draining_first = Some event.Drain
-ending_event restarting = Some event.RestartNext
-ending_event pumping = Some event.Pump
-ending_event beginning_pause = Some event.BeginPause
-ending_event pausing = Some event.PauseNext
-ending_event draining = Some event.Drain
-ending_event pumping_last = Some event.Pump
-ending_event halting = Some event.Halt
-ending_event ended = None
+ending_event ending.PausingFirst = Some event.PauseNext
+ending_event ending.DrainingFirst = Some event.Drain
+ending_event ending.Restarting = Some event.RestartNext
+ending_event ending.Pumping = Some event.Pump
+ending_event ending.BeginningPause = Some event.BeginPause
+ending_event ending.Pausing = Some event.PauseNext
+ending_event ending.Draining = Some event.Drain
+ending_event ending.PumpingLast = Some event.Pump
+ending_event ending.Halting = Some event.Halt
+ending_event ending.Ended = None
 
 abbrev pub paused_first : Reply → Ending
-paused_first reply.Paused = restarting
-paused_first (reply.Waiting n) = draining_first
-paused_first _ = pausing_first
+paused_first reply.Paused = ending.Restarting
+paused_first (reply.Waiting n) = ending.DrainingFirst
+paused_first _ = ending.PausingFirst
 
 abbrev pub paused_last : Reply → Ending
-paused_last reply.Paused = pumping_last
-paused_last (reply.Waiting n) = draining
-paused_last _ = pausing
+paused_last reply.Paused = ending.PumpingLast
+paused_last (reply.Waiting n) = ending.Draining
+paused_last _ = ending.Pausing
 
 abbrev pub restarted : Reply → Ending
-restarted reply.Running = pumping
-restarted _ = restarting
+restarted reply.Running = ending.Pumping
+restarted _ = ending.Restarting
 
+-- goes on to the next where the answer is idle
 abbrev pub idle_then : Ending → Ending → Reply → Ending
 idle_then next again reply.Idle = next
 idle_then next again _ = again
 
 abbrev pub ending_after : Ending → Reply → Ending
-ending_after pausing_first told = paused_first told
-ending_after draining_first told = pausing_first
-ending_after restarting told = restarted told
-ending_after pumping told = idle_then beginning_pause pumping told
-ending_after beginning_pause told = pausing
-ending_after pausing told = paused_last told
-ending_after draining told = pausing
-ending_after pumping_last told = idle_then halting pumping_last told
-ending_after halting told = ended
-ending_after ended told = ended
+ending_after ending.PausingFirst told = paused_first told
+ending_after ending.DrainingFirst told = ending.PausingFirst
+ending_after ending.Restarting told = restarted told
+ending_after ending.Pumping told = idle_then ending.BeginningPause ending.Pumping told
+ending_after ending.BeginningPause told = paused_last told
+ending_after ending.Pausing told = paused_last told
+ending_after ending.Draining told = ending.Pausing
+ending_after ending.PumpingLast told = idle_then ending.Halting ending.PumpingLast told
+ending_after ending.Halting told = ending.Ended
+ending_after ending.Ended told = ending.Ended
