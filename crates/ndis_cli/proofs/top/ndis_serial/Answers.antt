@@ -30,3 +30,8 @@ pub returns-clause-memory : goal.returns-clause-memory
 returns-clause-memory g c e =
     let built : is_built c.in-Ok-read_script.script ≡ true = search rules in
     inr (wrote _ _ _ _ _ _ c.in-Ok-read_script.script c.from_ref.result.now _ c.from_ref.ensures.value c.in-Ok.ensures.all c.in-Ok.ensures.end c.as_slice.ensures.value c.in-Ok-read_script.ensures built c.in-Ok-run_over.ensures c.in-Err-Memory-write_report.ensures.prefix)
+
+pub returns-in-Err-Failed-write_report-clause-cut : goal.returns-in-Err-Failed-write_report-clause-cut
+returns-in-Err-Failed-write_report-clause-cut g c e =
+    let built : is_built c.in-Ok-read_script.script ≡ true = search rules in
+    wrote _ _ _ _ _ _ c.in-Ok-read_script.script c.from_ref.result.now _ c.from_ref.ensures.value c.in-Ok.ensures.all c.in-Ok.ensures.end c.as_slice.ensures.value c.in-Ok-read_script.ensures built c.in-Ok-run_over.ensures c.in-Err-Failed-write_report.ensures.prefix
