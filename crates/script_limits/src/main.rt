@@ -8,6 +8,17 @@ use crate::table::{LIMITS, Limit};
 use script_file::{ScriptCause, ScriptFault, read_script};
 use std::alloc::{AllocError, Global};
 
+// What JSON readers may differ in: numbers that are held as floats, a number that no float holds, and
+// half of a character.
+const EDGES: [&str; 6] = [
+    "-0",
+    "1.0",
+    "1e0",
+    "18446744073709551616",
+    "1e999",
+    "\"\\ud800\"",
+];
+
 fn name_of_answer(alloc: Global, text: &str) -> &'static str {
     match read_script(alloc, text.as_bytes()) {
         Ok(_) => "fine",
@@ -17,6 +28,7 @@ fn name_of_answer(alloc: Global, text: &str) -> &'static str {
             ScriptCause::FrameLength => "FrameLength",
             ScriptCause::TooMany => "TooMany",
             ScriptCause::BadLink => "BadLink",
+            ScriptCause::Shape => "Shape",
             ScriptCause::TooLong => "TooLong",
             ScriptCause::NotJson => "NotJson",
             _ => "another fault",
@@ -68,6 +80,21 @@ fn length_answer(alloc: Global, bytes: usize) -> std::result::Result<&'static st
     Ok(name_of_answer(alloc, text.as_str()))
 }
 
+// A script with this in place of its version.
+fn edge_answer(alloc: Global, edge: &str) -> std::result::Result<&'static str, AllocError> {
+    let before = LIMITS[0].before;
+    let after = LIMITS[0].after;
+    let text = format!(in alloc; "{before}{edge}{after}")?;
+    Ok(name_of_answer(alloc, text.as_str()))
+}
+
+// A script with this in front of it.
+fn answer_behind(alloc: Global, front: &str) -> std::result::Result<&'static str, AllocError> {
+    let script = text_of_frame(alloc, 14)?;
+    let text = format!(in alloc; "{front}{script}")?;
+    Ok(name_of_answer(alloc, text.as_str()))
+}
+
 // A script without its last byte.
 fn cut_answer(alloc: Global) -> std::result::Result<&'static str, AllocError> {
     let mut text = text_of_frame(alloc, 14)?;
@@ -95,5 +122,11 @@ fn main(rt: HostRuntime) -> anyhow::Result<()> {
     println!(rt; "text without its last byte: {answer}")?;
     let answer = name_of_answer(alloc, "");
     println!(rt; "no text: {answer}")?;
+    for edge in EDGES {
+        let answer = edge_answer(alloc, edge)?;
+        println!(rt; "version {edge}: {answer}")?;
+    }
+    let answer = answer_behind(alloc, "\u{feff}")?;
+    println!(rt; "behind a byte order mark: {answer}")?;
     Ok(())
 }
