@@ -1,10 +1,11 @@
-//! Walks recorded scripts by the rules of the stack alone, and asks of each journal whether its stack is opened
-//! before all calls and ended after them. The file `names` lists the runs, one in a line, with the word `order`
-//! where the run has an order of lanes.
+//! Walks recorded scripts by the rules of the stack alone, and asks whether the journals follow the script:
+//! each lane's calls in their turns and tails, and each stack opened before all calls and ended after them. The
+//! file `names` lists the runs, one in a line, with the word `order` where the run has an order of lanes.
 #![tactic(auto)]
 
-use ndis_base::OutOfMemory;
-use plain_followed::is_opened_and_ended;
+use journal_types::Turn;
+use ndis_base::{LaneNo, OutOfMemory};
+use plain_followed::{is_followed, is_opened_and_ended};
 use plain_walk::{WalkedStack, walk};
 use script_file::{ScriptFault, read_script};
 use script_types::Script;
@@ -28,6 +29,29 @@ impl From<ScriptFault> for Fault {
     fn from(fault: ScriptFault) -> Fault {
         Fault::Script(fault)
     }
+}
+
+fn are_followed(
+    alloc: Global,
+    script: &Script,
+    stacks: &[WalkedStack],
+) -> Result<bool, OutOfMemory> {
+    let mut journals: Vec<&[Turn]> = Vec::new(alloc);
+    for stack in stacks {
+        journals.push(stack.journal().turns())?;
+    }
+    for lane in 0..script.lanes {
+        if !is_followed(
+            alloc,
+            script.stacks.items(),
+            LaneNo(lane),
+            script.calls.items(),
+            journals.as_slice(),
+        )? {
+            return Ok(false);
+        }
+    }
+    Ok(true)
 }
 
 fn are_opened_and_ended(
@@ -60,11 +84,13 @@ fn lanes_of(alloc: Global, order: &str) -> Result<Vec<u8>, OutOfMemory> {
     Ok(lanes)
 }
 
-fn judged(alloc: Global, script: &str, order: &str) -> Result<bool, Fault> {
+fn judged(alloc: Global, script: &str, order: &str) -> Result<(bool, bool), Fault> {
     let lanes = lanes_of(alloc, order)?;
     let script = read_script(alloc, script.as_bytes())?;
     let stacks = walk(alloc, &script, lanes.as_slice())?;
-    Ok(are_opened_and_ended(alloc, &script, stacks.as_slice())?)
+    let followed = are_followed(alloc, &script, stacks.as_slice())?;
+    let opened = are_opened_and_ended(alloc, &script, stacks.as_slice())?;
+    Ok((followed, opened))
 }
 
 fn word(holds: bool) -> &'static str {
@@ -74,9 +100,10 @@ fn word(holds: bool) -> &'static str {
 fn judge(rt: &impl Print, alloc: Global, name: &str, script: &str, order: &str) -> io::Result<()> {
     match judged(alloc, script, order) {
         Err(fault) => println!(rt; "{name} {fault:?}"),
-        Ok(opened) => {
+        Ok((followed, opened)) => {
+            let followed = word(followed);
             let opened = word(opened);
-            println!(rt; "{name} opened {opened}")
+            println!(rt; "{name} followed {followed} opened {opened}")
         }
     }
 }
