@@ -38,6 +38,19 @@ fn replay(alloc: Global, script: Vec<u8>, sink: &mut MemorySink) -> Result<Statu
     Ok(ndis_serial(alloc, words.as_slice(), &mut source, sink, &mut parts))
 }
 
+/// Replays a script over no drivers at all.
+fn replay_without_parts(
+    alloc: Global,
+    script: Vec<u8>,
+    sink: &mut MemorySink,
+) -> Result<Status, OutOfMemory> {
+    let mut parts: Vec<StackParts> = Vec::new(alloc);
+    let mut words = Vec::with_capacity(alloc, 1)?;
+    words.push(String::from_str(alloc, "replay")?)?;
+    let mut source = MemorySource::make(script, Vec::new(alloc));
+    Ok(ndis_serial(alloc, words.as_slice(), &mut source, sink, &mut parts))
+}
+
 /// How many bytes are the same from the front on.
 fn same_in_front(a: &[u8], b: &[u8]) -> usize {
     for (i, x) in a.iter().enumerate() {
@@ -69,10 +82,36 @@ fn compare(rt: &HostRuntime, name: &str) -> io::Result<()> {
     }
 }
 
+fn tell(
+    rt: &HostRuntime,
+    name: &str,
+    status: Result<Status, OutOfMemory>,
+    sink: &MemorySink,
+) -> io::Result<()> {
+    let written = sink.bytes().len();
+    match status {
+        Ok(status) => println!(rt; "{name} {status:?}, {written} bytes written"),
+        Err(OutOfMemory) => println!(rt; "{name} out of memory"),
+    }
+}
+
+/// Runs that end before anything is run: no drivers, and no text.
+fn tell_of_nothing(rt: &HostRuntime) -> io::Result<()> {
+    let alloc = rt.alloc();
+    let Ok(mut sink) = MemorySink::make(alloc, ROOM, Vec::new(alloc)) else {
+        return println!(rt; "nothing out of memory");
+    };
+    let script = fs::read(rt, "first-path-1.script.json")?;
+    let status = replay_without_parts(alloc, script, &mut sink);
+    tell(rt, "no parts", status, &sink)?;
+    let status = replay(alloc, Vec::new(alloc), &mut sink);
+    tell(rt, "no text", status, &sink)
+}
+
 fn main(rt: HostRuntime) -> io::Result<()> {
     let names = fs::read_to_string(&rt, "names")?;
     for name in names.as_str().lines() {
         compare(&rt, name)?;
     }
-    Ok(())
+    tell_of_nothing(&rt)
 }
