@@ -42,15 +42,15 @@ none_added P a p = record { more = []; turns = sym (append-nil a); kind = p }
 
 -- a pump is answered Moved or Idle
 pub pump_told : (old new : BookView) (r : Reply) (moved : Bool) → Turned old new event.Pump r → (moved ≡ true → r ≡ reply.Moved) → (moved ≡ false → r ≢ reply.Moved) → r ≡ pump_reply moved
-pump_told old new r true t yes no = yes refl
-pump_told old new r false t yes no = by_answer (pump_gives old.core.tray.net t.turn t.first t.next t.event).answer
+pump_told old new r true t moves rests = moves refl
+pump_told old new r false t moves rests = by_answer (pump_gives old.core.tray.net t.turn t.first t.next t.event).answer
   where
     by_answer : (t.turn.reply ≡ reply.Moved) ⊎ (t.turn.reply ≡ reply.Idle) → r ≡ reply.Idle
-    by_answer (inl is) = absurd (no refl (sym t.reply ∙ is))
+    by_answer (inl is) = absurd (rests refl (sym t.reply ∙ is))
     by_answer (inr is) = sym t.reply ∙ is
 
 pub pump_added : (old new : BookView) (w : Who) (r : Reply) (moved : Bool) → Turned old new event.Pump r → (moved ≡ true → r ≡ reply.Moved) → (moved ≡ false → r ≢ reply.Moved) → AddsTurn old new (record { who = w; event = event.Pump }) r → Adds (IsOne w event.Pump (pump_reply moved)) old.core.turns new.core.turns
-pump_added old new w r moved t yes no a = subst (λ s. Adds (IsOne w event.Pump s) old.core.turns new.core.turns) (pump_told old new r moved t yes no) (one_of old new w event.Pump r a)
+pump_added old new w r moved t moves rests a = subst (λ s. Adds (IsOne w event.Pump s) old.core.turns new.core.turns) (pump_told old new r moved t moves rests) (one_of old new w event.Pump r a)
 
 one_more : (w : Who) (xs ys : List Turn) → AreMoves w xs → IsOne w event.Pump reply.Moved ys → AreMoves w (xs ++ ys)
 one_more w [] ys m o = subst (AreMoves w) (sym o.only) (o.told, tt)
@@ -131,8 +131,8 @@ goes_on (reply.Waiting n) w p = absurd (w tt)
 goes_on _ w p = refl
 
 pub pause_led : (old new : BookView) (r : Reply) (done : Bool) → (IsWaiting r → ⊥) → (done ≡ true → r ≡ reply.Paused) → (done ≡ false → r ≢ reply.Paused) → AddsTurn old new (record { who = who.Own; event = event.PauseNext }) r → Adds (Ends own.pausing (pause_leads done)) old.core.turns new.core.turns
-pause_led old new r true w yes no t = subst (λ s. Adds (Ends own.pausing s) old.core.turns new.core.turns) (ap (ending_after own.pausing) (yes refl)) (ends_by old new own.pausing event.PauseNext r refl t)
-pause_led old new r false w yes no t = subst (λ s. Adds (Ends own.pausing s) old.core.turns new.core.turns) (goes_on r w (no refl)) (ends_by old new own.pausing event.PauseNext r refl t)
+pause_led old new r true w over on t = subst (λ s. Adds (Ends own.pausing s) old.core.turns new.core.turns) (ap (ending_after own.pausing) (over refl)) (ends_by old new own.pausing event.PauseNext r refl t)
+pause_led old new r false w over on t = subst (λ s. Adds (Ends own.pausing s) old.core.turns new.core.turns) (goes_on r w (on refl)) (ends_by old new own.pausing event.PauseNext r refl t)
 
 pub pause_drained : (old mid : BookView) (new : List Turn) (r : Reply) → IsWaiting r → AddsTurn old mid (record { who = who.Own; event = event.PauseNext }) r → Adds (Ends own.draining own.pausing) mid.core.turns new → Adds (Ends own.pausing own.pausing) old.core.turns new
 pause_drained old mid new r w t d = ends_then own.pausing own.draining own.pausing old.core.turns mid.core.turns new
@@ -162,3 +162,13 @@ open_added a b c d r s u ok next running t t2 t3 =
     (opens_then own.starting own.starting own.opened b.core.turns c.core.turns d.core.turns
     (subst (λ o. Adds (Opens own.starting o) b.core.turns c.core.turns) (ap (opening_after own.starting) next) (opens_by b c own.starting event.RestartNext s refl t2))
     (subst (λ o. Adds (Opens own.starting o) c.core.turns d.core.turns) (ap (opening_after own.starting) running) (opens_by c d own.starting event.RestartNext u refl t3)))
+
+-- the steps of the two loops
+pub moves_on : (a b c : List Turn) (w : Who) (moved : Bool) → moved ≡ true → Adds (AreMoves w) a b → Adds (IsOne w event.Pump (pump_reply moved)) b c → Adds (AreMoves w) a c
+moves_on a b c w moved is m o = moves_more a b c w m (subst (λ x. Adds (IsOne w event.Pump (pump_reply x)) b c) is o)
+
+pub pumps_stop : (a b c : List Turn) (w : Who) (moved : Bool) → moved ≡ false → Adds (AreMoves w) a b → Adds (IsOne w event.Pump (pump_reply moved)) b c → Adds (ArePumps w) a c
+pumps_stop a b c w moved is m o = pumps_end a b c w m (subst (λ x. Adds (IsOne w event.Pump (pump_reply x)) b c) is o)
+
+pub pauses_to : (a b c : List Turn) (done x : Bool) → done ≡ x → Adds (Ends own.pausing own.pausing) a b → Adds (Ends own.pausing (pause_leads done)) b c → Adds (Ends own.pausing (pause_leads x)) a c
+pauses_to a b c done x is p q = ends_then own.pausing own.pausing (pause_leads x) a b c p (subst (λ y. Adds (Ends own.pausing (pause_leads y)) b c) is q)
