@@ -30,10 +30,9 @@ impl Model for PlainShelf {
 fn is_of_kind(kind: FilterKind, kinds: &[FilterKind], place: usize) -> bool
     ensures { result ≡ is_of_kind kind kinds.now place }
 {
-    if place < kinds.len() {
-        same_filter_kind(kinds[place], kind)
-    } else {
-        false
+    match kinds.get(place) {
+        Some(found) => same_filter_kind(*found, kind),
+        None => false,
     }
 }
 
