@@ -29,7 +29,7 @@ use Rattle.rule_basics.specs.Live.{is_live, IsApart, Each}
 use Rattle.rule_basics.specs.Numbers.{IsNumbered}
 use Rattle.rule_basics.proofs.Numbered.{numbered_after}
 use Rattle.home_laws.proofs.Known.{by_test, Each-first_of}
-use Rattle.work_laws.specs.Kept.{Stands, IsOrdered, IsInPlace}
+use Rattle.place_laws.specs.Kept.{Stands, IsOrdered, IsInPlace}
 use Rattle.work_laws.proofs.Weights.{Stay, weight, load, work_least, work_after, load_moved, passed_work}
 use Rattle.work_laws.proofs.Clones.{clones_after}
 use Rattle.work_laws.proofs.Ways.{target_most, in_above, down_far, up_near, done_near, back_least}

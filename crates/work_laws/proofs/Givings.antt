@@ -34,7 +34,7 @@ use Rattle.work_laws.proofs.Adds.{new_holder}
 use Rattle.work_laws.proofs.Moves.{same_is}
 use Rattle.std.proofs.Common.{add-one}
 use Rattle.work_laws.proofs.Filters.{Lowers}
-use Rattle.work_laws.specs.Kept.{place_position, IsBelow, IsAsked, EachAnswer}
+use Rattle.place_laws.specs.Kept.{place_position, IsBelow, IsAsked, EachAnswer}
 use Rattle.work_laws.proofs.Items.{held_at, done_load}
 
 -- two sums that differ only at answers

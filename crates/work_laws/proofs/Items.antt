@@ -31,7 +31,7 @@ use Rattle.work_laws.proofs.Weights.{Stay, weight, asked_work, load, work_least,
 use Rattle.work_laws.proofs.Clones.{AreStaying, clones_rows}
 use Rattle.work_laws.proofs.Ways.{status_near}
 use Rattle.work_laws.proofs.Adds.{load_status}
-use Rattle.work_laws.specs.Kept.{GoesUp, place_position, IsGiven, IsAsked}
+use Rattle.place_laws.specs.Kept.{GoesUp, place_position, IsGiven, IsAsked}
 use Rattle.work_laws.proofs.Filters.{Lowers}
 
 -- what a test leaves out is gone from the sum

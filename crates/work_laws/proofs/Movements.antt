@@ -9,7 +9,7 @@ use Rattle.stack_rules.specs.declared.Choice.{Choice}
 use Rattle.stack_rules.specs.Net.{Net, after_rows, told}
 use Rattle.stack_rules.specs.Sound.{outcome}
 use Rattle.stack_rules.specs.Work.{work}
-use Rattle.work_laws.specs.Kept.{IsInPlace}
+use Rattle.place_laws.specs.Kept.{IsInPlace}
 use Rattle.work_laws.specs.Bounds.{EachLowersWhileStill, receive_room, is_give_back, is_done, is_transmit, is_drain, originates, EachLowers, EachPumpLowers, EachAddsInPlace, EachQuietAddsNothing}
 use Rattle.work_laws.proofs.Filters.{Lowers}
 use Rattle.work_laws.proofs.Pumps.{pump_lowers}

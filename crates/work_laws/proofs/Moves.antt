@@ -33,7 +33,7 @@ use Rattle.home_laws.proofs.Known.{by_test}
 use Rattle.rule_basics.proofs.Lives.{find_is}
 use Rattle.work_laws.proofs.Ways.{target_most, in_above, down_far, up_near, done_near, back_far}
 use Rattle.work_laws.proofs.Lowers.{IsFree, back_trades, give_trades, give_back_trades, keep_trades, home_only, home_alone, home_releases}
-use Rattle.work_laws.specs.Kept.{StopsBelow, StopsAbove, Stands, IsOriginal, HasOriginal, IsOrdered}
+use Rattle.place_laws.specs.Kept.{StopsBelow, StopsAbove, Stands, IsOriginal, HasOriginal, IsOrdered}
 use Rattle.work_laws.proofs.Filters.{Lowers, onward_down, onward_up, homeward_done, homeward_back, AllLess, filter_lowers}
 use Rattle.work_laws.proofs.Deliveries.{delivery_lowers}
 

@@ -31,7 +31,7 @@ use Rattle.rule_basics.specs.Numbers.{IsNumbered}
 use Rattle.rule_basics.proofs.Each.{Each-found}
 use Rattle.home_laws.proofs.Known.{by_test, Each-find, Each-first_of}
 use Rattle.work_laws.specs.Bounds.{originates, receive_room}
-use Rattle.work_laws.specs.Kept.{Stands, IsInPlace}
+use Rattle.place_laws.specs.Kept.{Stands, IsInPlace}
 use Rattle.work_laws.proofs.Weights.{Stay, weight, load, work_least, work_after, load_pass, load_moved, load_issue, passed_work}
 use Rattle.work_laws.proofs.Clones.{clones_after, clones_rows}
 use Rattle.work_laws.proofs.Ways.{done_near}

@@ -23,7 +23,7 @@ use Rattle.stack_rules.specs.Pumps.{thing_rows, request_pump, pump_of, pump_outc
 use Rattle.stack_rules.specs.Outcome.{Outcome}
 use Rattle.rule_basics.specs.Live.{is_live, IsApart, Each}
 use Rattle.home_laws.proofs.Known.{thing_found}
-use Rattle.work_laws.specs.Kept.{IsPlaced, IsOriginal, HasOriginal, GoesUp, IsGiven, IsAsked, EachAnswer, EachRequest, EachStatus, EachApart, IsInPlace}
+use Rattle.place_laws.specs.Kept.{IsPlaced, IsOriginal, HasOriginal, GoesUp, IsGiven, IsAsked, EachAnswer, EachRequest, EachStatus, EachApart, IsInPlace}
 use Rattle.work_laws.proofs.Clones.{any_clone}
 use Rattle.work_laws.proofs.Adds.{OutcomeAdds, adds_none}
 use Rattle.work_laws.proofs.Hands.{Found}

@@ -10,7 +10,7 @@ use Rattle.journal_types.specs.declared.Row.{Row}
 use Rattle.journal_types.specs.declared.Row.TheVariants as row
 use Rattle.stack_rules.specs.Tests.{is_miniport, phase_is_running}
 use Rattle.stack_rules.specs.Net.{Net, after_turn, seen}
-use Rattle.work_laws.specs.Kept.{IsInPlace}
+use Rattle.place_laws.specs.Kept.{IsInPlace}
 use Rattle.stack_rules.specs.Sound.{Next, Sound}
 use Rattle.stack_rules.specs.Work.{bottom, echo_count, work}
 
