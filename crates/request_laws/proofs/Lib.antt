@@ -1,2 +1,4 @@
 pub mod Asked
 pub mod Changes
+pub mod Finds
+pub mod Answers
