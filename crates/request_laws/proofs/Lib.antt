@@ -2,3 +2,4 @@ pub mod Asked
 pub mod Changes
 pub mod Finds
 pub mod Answers
+pub mod Rows
