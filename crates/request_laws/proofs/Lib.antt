@@ -5,3 +5,5 @@ pub mod Answers
 pub mod Rows
 pub mod Orders
 pub mod Givings
+pub mod Phases
+pub mod Events
