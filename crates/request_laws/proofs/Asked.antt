@@ -1,14 +1,12 @@
 -- What is kept of the requests and their answers from turn to turn. A request is looked up by its number.
-use Rattle.std.proofs.Common.{◌≡◌, ℕ, ◌+◌, ◌<◌, ◌==◌, Bool, true, false, not, cond, List, [], ◌∷◌, ◌++◌, Option, Some, None, option_map, ◌⊎◌, inl, inr, filter, refl, arith, ap, sym, subst, ◌∙◌}
+use Rattle.std.proofs.Common.{◌≡◌, ℕ, ◌<◌, ◌==◌, Bool, true, false, not, cond, List, [], ◌∷◌, ◌++◌, Option, Some, None, filter, refl, arith}
 use Rattle.std.proofs.lemmas.Bool.Decides.{nat_tests}
-use Rattle.ndis_base.specs.declared.ModuleId.{ModuleId}
 use Rattle.ndis_base.specs.declared.ModuleId.TheVariants.{Filter}
 use Rattle.ndis_base.specs.declared.OidNo.{OidNo}
 use Rattle.stack_rules.specs.declared.Answered.{Answered}
 use Rattle.stack_rules.specs.declared.Request.{Request}
 use Rattle.stack_rules.specs.declared.RequestAt.{RequestAt}
 use Rattle.stack_rules.specs.declared.RequestAt.TheVariants as at
-use Rattle.stack_rules.specs.Net.{given_to}
 use Rattle.stack_rules.specs.Places.{position}
 use Rattle.stack_rules.specs.Rewires.{is_in}
 

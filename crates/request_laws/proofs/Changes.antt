@@ -1,7 +1,6 @@
 -- What is kept of requests and answers stays so where a request is issued, given to a module or done, and where the
 -- order changes while all requests are at the entry.
-use Rattle.std.proofs.Common.{◌≡◌, ℕ, ◌+◌, ◌<◌, ◌==◌, Bool, true, false, cond, List, [], ◌∷◌, ◌++◌, Option, Some, None, option_map, ◌⊎◌, inl, inr, refl, arith, ap, sym, subst, ◌∙◌}
-use Rattle.std.proofs.lemmas.Bool.Decides.{nat_tests}
+use Rattle.std.proofs.Common.{◌≡◌, ℕ, ◌+◌, ◌<◌, ◌==◌, Bool, true, false, cond, List, [], ◌++◌, Option, Some, None, option_map, ◌⊎◌, inl, inr, refl, arith, ap, sym, subst, ◌∙◌}
 use Rattle.ndis_base.specs.declared.ModuleId.{ModuleId}
 use Rattle.ndis_base.specs.declared.ModuleId.TheVariants.{Filter}
 use Rattle.ndis_base.specs.declared.OidNo.{OidNo}
@@ -93,8 +92,8 @@ module _ (order : List ℕ) (found : ℕ → Option Request) (answers : List Ans
       by x a (inl s) = record { filter = a.filter; parent = still_held g.0 a.filter a.parent; below = subst (λ p. position order (Filter a.filter) < place_in order p) (sym s.1) (own x.old x.here s.0 a) }
       by x a (inr s) = record { filter = a.filter; parent = still_held g.0 a.filter a.parent; below = subst (λ p. position order (Filter a.filter) < place_in order p) (sym s.1) a.below }
 
-  pub given : AreKept order then answers next
-  given = record {
+  pub keeps_given : AreKept order then answers next
+  keeps_given = record {
     named = λ i q e. let x : Was i q = was i q e in ap (λ (o : OidNo). o.0) x.number ∙ k.named i x.old x.here;
     below = λ i q e. let x : Was i q = was i q e in k.below i x.old x.here;
     asked = still_asked;
@@ -137,8 +136,8 @@ module _ (order : List ℕ) (found : ℕ → Option Request) (answers : List Ans
   of_new : (i : ℕ) (q : Request) (g : OidNo) → IsNew i q → q.parent ≡ Some g → MayStart order found answers q.at g
   of_new i q g x p = subst (λ at. MayStart order found answers at g) (ap (λ (y : Request). y.at) x.request) (may g (ap (λ (y : Request). y.parent) x.request ∙ p))
 
-  pub issued : AreKept order then answers (next + 1)
-  issued = record {
+  pub keeps_issued : AreKept order then answers (next + 1)
+  keeps_issued = record {
     named = λ i q e. names i q (newer i q e);
     below = λ i q e. lows i q (newer i q e);
     asked = λ i q g e p. asks i q g p (newer i q e);
@@ -192,7 +191,7 @@ module _ (order : List ℕ) (found : ℕ → Option Request) (answers : List Ans
   held_still : (i filter : ℕ) → (i ≡ n → ⊥) → IsHeld order found i filter → IsHeld order then i filter
   held_still i filter other h = record { request = h.request; here = is i ∙ ap (λ b. cond b None (found i)) (apart i n other) ∙ h.here; at = h.at; there = h.there }
 
-  -- a parent is above its clone, so they differ
+  -- its parent is another request, since it has no clone
   parent_other : (g : OidNo) → r.parent ≡ Some g → g.0 ≡ n → ⊥
   parent_other g p same = childless n r g f p same
 
@@ -215,8 +214,8 @@ module _ (order : List ℕ) (found : ℕ → Option Request) (answers : List Ans
       Each-implies (λ a. a.parent.0 ≡ g.0) (λ a. HasNoClone then a.parent.0)
       (λ a s i q h d p t. let x = left i q d in x.0 (k.single i n q r h g x.1 f p e (t ∙ s))) more from
 
-  pub done : AreKept order then (answers_but n answers ++ more) next
-  done = record {
+  pub keeps_done : AreKept order then (answers_but n answers ++ more) next
+  keeps_done = record {
     named = λ i q e. k.named i q (left i q e).1;
     below = λ i q e. k.below i q (left i q e).1;
     asked = asked_still;
@@ -233,8 +232,8 @@ module _ (order : List ℕ) (found : ℕ → Option Request) (answers : List Ans
 abbrev pub AllAtEntry : (ℕ → Option Request) → Type 0
 AllAtEntry found = (n : ℕ) (r : Request) → found n ≡ Some r → r.at ≡ at.Entry
 
-pub reordered : (order others : List ℕ) (found : ℕ → Option Request) (answers : List Answered) (next : ℕ) → AreKept order found answers next → AllAtEntry found → AreKept others found answers next
-reordered order others found answers next k entry = record {
+pub keeps_reordered : (order others : List ℕ) (found : ℕ → Option Request) (answers : List Answered) (next : ℕ) → AreKept order found answers next → AllAtEntry found → AreKept others found answers next
+keeps_reordered order others found answers next k entry = record {
   named = k.named;
   below = k.below;
   asked = λ n r g e p. let a : IsAbove order found r.at g.0 = k.asked n r g e p in absurd (nobody g.0 a.filter a.parent);

@@ -1,8 +1,7 @@
 -- Each event keeps what is kept of the requests.
-use Rattle.std.proofs.Common.{◌≡◌, ℕ, Bool, true, false, List, [], ◌∷◌, Option, Some, None, replicate, length, get_or, refl, arith, sym, subst, ap, ◌∙◌}
+use Rattle.std.proofs.Common.{◌≡◌, ℕ, Bool, true, List, [], ◌∷◌, Option, Some, None, replicate, length, get_or, refl, arith, sym, subst, ap, ◌∙◌}
 use Rattle.std.proofs.lemmas.List.{get_or-replicate, get_or_past, length-replicate}
 use Rattle.ndis_base.specs.declared.ModuleId.TheVariants.{Binding}
-use Rattle.ndis_base.specs.declared.ModuleState.{ModuleState}
 use Rattle.ndis_base.specs.declared.ModuleState.TheVariants as state
 use Rattle.ndis_base.specs.declared.OidKind.{OidKind}
 use Rattle.ndis_base.specs.declared.Phase.{Phase}
@@ -11,14 +10,12 @@ use Rattle.journal_types.specs.declared.Event.{Event}
 use Rattle.journal_types.specs.declared.Event.TheVariants as event
 use Rattle.journal_types.specs.declared.Reply.{Reply}
 use Rattle.journal_types.specs.declared.Reply.TheVariants as reply
-use Rattle.journal_types.specs.declared.PhaseOf.TheVariants as of
 use Rattle.journal_types.specs.declared.Row.{Row}
 use Rattle.journal_types.specs.declared.Row.TheVariants as row
 use Rattle.journal_types.specs.declared.StackHead.{StackHead}
 use Rattle.journal_types.specs.declared.Turn.{Turn}
 use Rattle.stack_rules.specs.declared.Answered.{Answered}
 use Rattle.stack_rules.specs.declared.Choice.{Choice}
-use Rattle.stack_rules.specs.declared.Request.{Request}
 use Rattle.stack_rules.specs.declared.Thing.{Thing}
 use Rattle.stack_rules.specs.declared.Thing.TheVariants as thing
 use Rattle.stack_rules.specs.Tests.{is_unbound}
@@ -29,18 +26,18 @@ use Rattle.stack_rules.specs.Requests.{Giving, next_giving, ask_outcome}
 use Rattle.stack_rules.specs.Pumps.{moved_rows, request_pump, pump_of, pump_outcome, pump_moves}
 use Rattle.stack_rules.specs.Statuses.{status_rows}
 use Rattle.stack_rules.specs.Drains.{drain_rows, drained, drain_outcome}
-use Rattle.stack_rules.specs.Sound.{outcome, Next, SoundFrom, Sound}
+use Rattle.stack_rules.specs.Sound.{outcome, SoundFrom, Sound}
 use Rattle.state_laws.specs.Shape.{IsDistinct, Fits, IsShaped}
 use Rattle.state_laws.proofs.Rows.{by_test, is_calm, AreCalm}
-use Rattle.state_laws.proofs.Calm.{calm_moved, calm_status, calm_drained, is_calm_event, calm_event}
+use Rattle.state_laws.proofs.Calm.{calm_moved, calm_status, calm_drained, calm_event}
 use Rattle.state_laws.proofs.Events.{at_phase, state_after, turn_is, shaped_start, shaped_turns}
-use Rattle.place_laws.specs.Kept.{IsGiven, IsAsked, EachRequest}
+use Rattle.place_laws.specs.Kept.{IsGiven, IsAsked}
 use Rattle.request_laws.specs.Requested.{IsRequested}
-use Rattle.request_laws.proofs.Asked.{Each, HasHolder, HasNoClone, IsAbove, none_some, Each-implies}
+use Rattle.request_laws.proofs.Asked.{HasHolder, HasNoClone, IsAbove, none_some, Each-implies}
 use Rattle.request_laws.proofs.Finds.{EachRequest-implies, each_found}
 use Rattle.request_laws.proofs.Answers.{answered, each_answer, answer_found}
 use Rattle.request_laws.proofs.Rows.{found_in, IsKept, AsksSame, asks-refl, asks-then, kept_same, is_still, AreStill, still_rows, kept_issue, kept_done, kept_start}
-use Rattle.request_laws.proofs.Givings.{next_may, kept_giving}
+use Rattle.request_laws.proofs.Givings.{gives_next, kept_giving}
 use Rattle.request_laws.proofs.Phases.{kept_still, kept_initialize, kept_begin, kept_pause, kept_restart, kept_halting, kept_insert, kept_remove, kept_replace}
 
 -- rows of lists and statuses tell nothing of requests
@@ -101,7 +98,7 @@ kept_answer net a k e =
 
 kept_request : (net : Net) (s : IsShaped net) (o : Option Giving) → IsKept net → next_giving net ≡ o → IsKept (after_rows net (request_pump net o).rows)
 kept_request net s None k e = k
-kept_request net s (Some g) k e = kept_giving net g k (distinct net s) (next_may net g e)
+kept_request net s (Some g) k e = kept_giving net g k (distinct net s) (gives_next net g e)
 
 kept_pump_of : (net : Net) (s : IsShaped net) (keeps : Bool) (o : Option Thing) → IsKept net → agenda_first net ≡ o → IsKept (after_rows net (pump_of net keeps o).rows)
 kept_pump_of net s keeps None k e = kept_request net s (next_giving net) k refl

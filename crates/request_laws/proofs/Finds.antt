@@ -1,5 +1,5 @@
 -- The request of a number after each change of the requests, and that their numbers stay apart.
-use Rattle.std.proofs.Common.{◌≡◌, ℕ, ◌==◌, ◌||◌, Bool, true, false, not, cond, List, [], ◌∷◌, ◌++◌, Option, Some, None, option_map, refl, arith, ap, sym, subst, ◌∙◌, map, find, filter}
+use Rattle.std.proofs.Common.{◌≡◌, ℕ, ◌==◌, Bool, true, false, not, cond, List, [], ◌∷◌, ◌++◌, Option, Some, None, option_map, refl, arith, ap, sym, subst, ◌∙◌, map, find, filter}
 use Rattle.std.proofs.lemmas.Bool.Decides.{nat_tests}
 use Rattle.ndis_base.specs.declared.ModuleId.{ModuleId}
 use Rattle.stack_rules.specs.declared.Request.{Request}
@@ -98,7 +98,7 @@ pub apart_given : (n : ℕ) (m : ModuleId) (rs : List Request) → EachApart rs 
 apart_given n m [] h = tt
 apart_given n m (q ∷ rs) h = (
   EachRequest-given (λ x. (x.request.0 == (given_to n m q).request.0) ≡ false) n m rs (λ x e. ap (λ k. k == (given_to n m q).request.0) (number_given n m x) ∙ e)
-  (EachRequest-implies _ _ (λ x e. ap (λ k. x.request.0 == k) (number_given n m q) ∙ e) rs h.0),
+      (EachRequest-implies _ _ (λ x e. ap (λ k. x.request.0 == k) (number_given n m q) ∙ e) rs h.0),
   apart_given n m rs h.1,
 )
 
@@ -168,7 +168,7 @@ each_found [] h = tt
 each_found (q ∷ rs) h = (
   ap (λ b. cond b (Some q) (request_of q.request.0 rs)) (itself q.request.0),
   EachRequest-both (λ r. (r.request.0 == q.request.0) ≡ false) (λ r. request_of r.request.0 rs ≡ Some r) (λ r. cond (q.request.0 == r.request.0) (Some q) (request_of r.request.0 rs) ≡ Some r)
-  (λ r other f. ap (λ b. cond b (Some q) (request_of r.request.0 rs)) (turned r.request.0 q.request.0 other) ∙ f) rs h.0 (each_found rs h.1),
+      (λ r other f. ap (λ b. cond b (Some q) (request_of r.request.0 rs)) (turned r.request.0 q.request.0 other) ∙ f) rs h.0 (each_found rs h.1),
 )
 
 -- what is found has the number

@@ -1,29 +1,26 @@
 -- A request that a pump gives to a module: the miniport answers it, and a filter forwards it by a clone.
-use Rattle.std.proofs.Common.{◌≡◌, ℕ, ◌==◌, ◌&&◌, ◌||◌, not, Bool, true, false, cond, List, [], ◌∷◌, Option, Some, None, option_map, ◌⊎◌, inl, inr, refl, arith, ap, sym, subst, ◌∙◌, find, map}
+use Rattle.std.proofs.Common.{◌≡◌, ℕ, ◌==◌, ◌&&◌, not, Bool, true, false, cond, List, [], ◌∷◌, Option, Some, None, option_map, ◌⊎◌, inl, inr, refl, arith, ap, sym, subst, ◌∙◌, find, map}
 use Rattle.std.proofs.lemmas.Bool.Decides.{nat_tests}
 use Rattle.ndis_base.specs.declared.ModuleId.{ModuleId}
 use Rattle.ndis_base.specs.declared.ModuleId.TheVariants.{Miniport, Filter, Binding}
-use Rattle.ndis_base.specs.declared.OidNo.{OidNo}
-use Rattle.ndis_base.specs.declared.Phase.TheVariants as phase
 use Rattle.journal_types.specs.declared.Row.TheVariants as row
-use Rattle.stack_rules.specs.declared.Answered.{Answered}
 use Rattle.stack_rules.specs.declared.Request.{Request}
 use Rattle.stack_rules.specs.declared.RequestAt.{RequestAt}
 use Rattle.stack_rules.specs.declared.RequestAt.TheVariants as at
-use Rattle.stack_rules.specs.Net.{Net, Modules, after, after_rows, request_of, given_to, first_oid, below, place_of_clone, place_of_request}
+use Rattle.stack_rules.specs.Net.{Net, after, after_rows, request_of, given_to, first_oid, below, place_of_clone, place_of_request}
 use Rattle.stack_rules.specs.Requests.{Giving, waits_at, is_at_entry, is_busy, has_waiting, first_waiting, oid_modules, giving_to, lowest_giving, entry_giving, or_else, next_giving, given_rows_by, giving_rows}
 use Rattle.stack_rules.specs.OidTable.{report_of}
 use Rattle.stack_rules.specs.Outcome.{oid_no}
 use Rattle.state_laws.specs.Shape.{IsDistinct}
 use Rattle.request_laws.proofs.Asked.{Each, HasNoClone, IsAbove, some_same, none_some}
 use Rattle.request_laws.proofs.Changes.{MayStart, waits_childless, waits_unanswered}
-use Rattle.request_laws.proofs.Finds.{found_by_number, found_given, EachRequest-find}
+use Rattle.request_laws.proofs.Finds.{found_by_number, found_given}
 use Rattle.request_laws.proofs.Answers.{answered}
 use Rattle.request_laws.proofs.Rows.{found_in, IsKept, kept_issue, kept_give, kept_done}
 use Rattle.request_laws.proofs.Orders.{TakesRequests, clone_below, topmost_takes, AllTake, all_take, same_is}
 
--- the request is one of the stack's, it waits at the module or is at the entry, and the module takes requests
-pub record MayGive (net : Net) (g : Giving) : Type 0 where
+-- which request is given, and to which module: one that waits there or is at the entry, where the module takes requests
+pub record GivesNext (net : Net) (g : Giving) : Type 0 where
   pub test : Request → Bool
   pub found : find test net.requests ≡ Some g.request
   pub at : (g.request.at ≡ at.Entry) ⊎ (g.request.at ≡ at.Waiting g.module_id)
@@ -48,35 +45,35 @@ entry_is at.Entry e = refl
 entry_is (at.Waiting m) e = cc
 entry_is (at.Given m) e = cc
 
-giving_found : (net : Net) (m : ModuleId) (p : Request → Bool) (o : Option Request) (g : Giving) → find p net.requests ≡ o → ((r : Request) → p r ≡ true → (r.at ≡ at.Entry) ⊎ (r.at ≡ at.Waiting m)) → TakesRequests net.modules m → giving_to m o ≡ Some g → MayGive net g
+giving_found : (net : Net) (m : ModuleId) (p : Request → Bool) (o : Option Request) (g : Giving) → find p net.requests ≡ o → ((r : Request) → p r ≡ true → (r.at ≡ at.Entry) ⊎ (r.at ≡ at.Waiting m)) → TakesRequests net.modules m → giving_to m o ≡ Some g → GivesNext net g
 giving_found net m p None g f at takes e = absurd (none_some g e)
 giving_found net m p (Some r) g f at takes e =
-    subst (MayGive net) (some_same (record { request = r; module_id = m }) g e) record { test = p; found = f; at = at r (find_true p net.requests r f); takes = takes }
+    subst (GivesNext net) (some_same (record { request = r; module_id = m }) g e) record { test = p; found = f; at = at r (find_true p net.requests r f); takes = takes }
 
-lowest_may : (net : Net) (ms : List ModuleId) (g : Giving) → AllTake net.modules ms → lowest_giving net.requests ms ≡ Some g → MayGive net g
-lowest_may net [] g a e = absurd (none_some g e)
-lowest_may net (m ∷ ms) g a e =
-    let cases : (b : Bool) → cond b (giving_to m (first_waiting net.requests m)) (lowest_giving net.requests ms) ≡ Some g → MayGive net g = elim [
+lowest_gives : (net : Net) (ms : List ModuleId) (g : Giving) → AllTake net.modules ms → lowest_giving net.requests ms ≡ Some g → GivesNext net g
+lowest_gives net [] g a e = absurd (none_some g e)
+lowest_gives net (m ∷ ms) g a e =
+    let cases : (b : Bool) → cond b (giving_to m (first_waiting net.requests m)) (lowest_giving net.requests ms) ≡ Some g → GivesNext net g = elim [
       | true ↦ λ f. giving_found net m (λ r. waits_at m r.at) (first_waiting net.requests m) g refl (λ r t. inr (waiting_is m r.at t)) a.0 f
-      | false ↦ λ f. lowest_may net ms g a.1 f
+      | false ↦ λ f. lowest_gives net ms g a.1 f
     ] in
     cases (has_waiting net.requests m && not (is_busy net.requests m)) e
 
-entry_may : (net : Net) (g : Giving) → entry_giving net ≡ Some g → MayGive net g
-entry_may net g e =
+entry_gives : (net : Net) (g : Giving) → entry_giving net ≡ Some g → GivesNext net g
+entry_gives net g e =
     let m : ModuleId = first_oid net.modules net.modules.order in
-    let cases : (b : Bool) → cond b None (giving_to m (find (λ r. is_at_entry r.at) net.requests)) ≡ Some g → MayGive net g = elim [
+    let cases : (b : Bool) → cond b None (giving_to m (find (λ r. is_at_entry r.at) net.requests)) ≡ Some g → GivesNext net g = elim [
       | true ↦ λ f. absurd (none_some g f)
       | false ↦ λ f. giving_found net m (λ r. is_at_entry r.at) (find (λ r. is_at_entry r.at) net.requests) g refl (λ r t. inl (entry_is r.at t)) (topmost_takes net.modules) f
     ] in
     cases _ e
 
-pub next_may : (net : Net) (g : Giving) → next_giving net ≡ Some g → MayGive net g
-next_may net g e = cases (lowest_giving net.requests (oid_modules net.modules)) refl e
+pub gives_next : (net : Net) (g : Giving) → next_giving net ≡ Some g → GivesNext net g
+gives_next net g e = cases (lowest_giving net.requests (oid_modules net.modules)) refl e
   where
-    cases : (o : Option Giving) → lowest_giving net.requests (oid_modules net.modules) ≡ o → or_else o (entry_giving net) ≡ Some g → MayGive net g
-    cases None f e = entry_may net g e
-    cases (Some k) f e = lowest_may net (oid_modules net.modules) g (all_take net.modules) (f ∙ e)
+    cases : (o : Option Giving) → lowest_giving net.requests (oid_modules net.modules) ≡ o → or_else o (entry_giving net) ≡ Some g → GivesNext net g
+    cases None f e = entry_gives net g e
+    cases (Some k) f e = lowest_gives net (oid_modules net.modules) g (all_take net.modules) (f ∙ e)
 
 -- after the request is given no clone of it is there yet
 clones_stay : (n i : ℕ) (m : ModuleId) (rs : List Request) → HasNoClone (λ j. request_of j rs) i → HasNoClone (λ j. request_of j (map (given_to n m) rs)) i
@@ -121,7 +118,7 @@ module _ (net : Net) (k : IsKept net) (r : Request) (f : found_in net r.request.
       kept_issue next (oid_no net.next.request) (Some r.request) r.binding r.kind r.code r.value (kept_give net r.request (Filter filter) r k f w) refl (λ e. none_some r (sym (ap (request_of r.request.0) (k.halted e)) ∙ f))
       (λ g e. subst (MayStart net.modules.order (found_in next) (answered net.things) (place_of_request next.modules next.requests (Some r.request))) (some_same r.request g e) may)
 
-pub kept_giving : (net : Net) (g : Giving) → IsKept net → IsDistinct net.modules.order → MayGive net g → IsKept (after_rows net (giving_rows net g))
+pub kept_giving : (net : Net) (g : Giving) → IsKept net → IsDistinct net.modules.order → GivesNext net g → IsKept (after_rows net (giving_rows net g))
 kept_giving net g k d may = by g.module_id may.takes may.at
   where
     f : found_in net g.request.request.0 ≡ Some g.request

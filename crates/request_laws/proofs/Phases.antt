@@ -1,5 +1,5 @@
 -- What initialising, pausing, restarting, halting and rewiring a stack leave of its requests.
-use Rattle.std.proofs.Common.{◌≡◌, ℕ, ◌+◌, ◌-◌, ◌==◌, ◌||◌, not, nat_lt, Bool, true, false, cond, List, [], ◌∷◌, ◌++◌, Some, length, count_by, filter, map, reverse, get_or, refl, arith, ap, sym, subst, ◌∙◌}
+use Rattle.std.proofs.Common.{◌≡◌, ℕ, ◌+◌, ◌-◌, ◌==◌, ◌||◌, not, nat_lt, Bool, true, false, cond, List, [], ◌∷◌, ◌++◌, Some, length, count_by, filter, map, reverse, get_or, refl, arith, sym, subst, ◌∙◌}
 use Rattle.std.specs.List.{insert}
 use Rattle.std.proofs.lemmas.Bool.Decides.{nat_tests}
 use Rattle.ndis_base.specs.declared.FilterKind.{FilterKind}
@@ -7,9 +7,7 @@ use Rattle.ndis_base.specs.declared.ModuleId.{ModuleId}
 use Rattle.ndis_base.specs.declared.ModuleId.TheVariants.{Miniport, Filter}
 use Rattle.ndis_base.specs.declared.ModuleState.{ModuleState}
 use Rattle.ndis_base.specs.declared.ModuleState.TheVariants as state
-use Rattle.ndis_base.specs.declared.Phase.{Phase}
 use Rattle.ndis_base.specs.declared.Phase.TheVariants as phase
-use Rattle.journal_types.specs.declared.Event.{Event}
 use Rattle.journal_types.specs.declared.Event.TheVariants as event
 use Rattle.journal_types.specs.declared.PhaseOf.TheVariants as of
 use Rattle.journal_types.specs.declared.Row.{Row}
@@ -24,8 +22,8 @@ use Rattle.stack_rules.specs.Net.{Net, after, after_rows, with_filter, request_o
 use Rattle.stack_rules.specs.Outcome.{Outcome, config_no, max_filters}
 use Rattle.stack_rules.specs.Places.{outstanding}
 use Rattle.stack_rules.specs.Requests.{is_at_entry}
-use Rattle.stack_rules.specs.Pauses.{binding_ids, floors, live_items, halt_items, statuses_away, halt_rows, state_row, state_rows, initialize_rows, initialize_outcome, begin_outcome, pause_outcome, paused_rows, first_unpaused, restart_outcome, restart_rows, restarting, is_top, running_floors, halt_outcome}
-use Rattle.stack_rules.specs.Rewires.{is_in, is_bad_position, attach_rows, swapped, inserted, insert_outcome, removed, remove_outcome, replaced, replace_outcome}
+use Rattle.stack_rules.specs.Pauses.{binding_ids, floors, live_items, halt_items, halt_rows, state_row, state_rows, initialize_rows, initialize_outcome, begin_outcome, pause_outcome, paused_rows, first_unpaused, restart_outcome, restart_rows, restarting, is_top, running_floors, halt_outcome}
+use Rattle.stack_rules.specs.Rewires.{is_in, is_bad_position, attach_rows, swapped, insert_outcome, remove_outcome, replace_outcome}
 use Rattle.rule_basics.proofs.Counts.{count_by-cons}
 use Rattle.state_laws.proofs.Rows.{by_test, after_rows-append}
 use Rattle.state_laws.proofs.Events.{state_after, when_halted}

@@ -1,8 +1,7 @@
 -- What is kept of the requests of a stack, after each row.
-use Rattle.std.proofs.Common.{◌≡◌, ℕ, ◌+◌, ◌<◌, ◌==◌, Bool, true, false, not, cond, List, [], ◌∷◌, ◌++◌, Option, Some, None, ◌⊎◌, inl, inr, refl, arith, ap, sym, subst, ◌∙◌, map, replicate}
+use Rattle.std.proofs.Common.{◌≡◌, ℕ, ◌<◌, ◌==◌, Bool, true, false, not, cond, List, [], ◌∷◌, ◌++◌, Option, Some, None, ◌⊎◌, refl, arith, ap, sym, subst, ◌∙◌}
 use Rattle.ndis_base.specs.declared.ModuleId.{ModuleId}
 use Rattle.ndis_base.specs.declared.ModuleId.TheVariants.{Miniport, Filter, Binding}
-use Rattle.ndis_base.specs.declared.ModuleState.{ModuleState}
 use Rattle.ndis_base.specs.declared.OidNo.{OidNo}
 use Rattle.ndis_base.specs.declared.OidKind.{OidKind}
 use Rattle.ndis_base.specs.declared.OidStatus.{OidStatus}
@@ -14,7 +13,6 @@ use Rattle.journal_types.specs.declared.PhaseOf.TheVariants as of
 use Rattle.journal_types.specs.declared.Row.{Row}
 use Rattle.journal_types.specs.declared.Row.TheVariants as row
 use Rattle.journal_types.specs.declared.StackHead.{StackHead}
-use Rattle.stack_rules.specs.declared.Answered.{Answered}
 use Rattle.stack_rules.specs.declared.Request.{Request}
 use Rattle.stack_rules.specs.declared.RequestAt.TheVariants as at
 use Rattle.stack_rules.specs.declared.Thing.{Thing}
@@ -22,8 +20,8 @@ use Rattle.stack_rules.specs.declared.Thing.TheVariants as thing
 use Rattle.stack_rules.specs.Tests.{phase_is_halted}
 use Rattle.stack_rules.specs.Net.{Net, Modules, start, after, after_rows, request_of, place_of_request, things_done, had_by, taken_by, without_status}
 use Rattle.request_laws.proofs.Asked.{AreKept, HasNoClone, none_some}
-use Rattle.request_laws.proofs.Changes.{given, issued, MayStart, done, AreFrom, AllAtEntry, reordered}
-use Rattle.request_laws.proofs.Finds.{found_push, apart_push, found_given, apart_given, found_but, apart_but, number_found}
+use Rattle.request_laws.proofs.Changes.{keeps_given, MayStart, keeps_issued, AreFrom, keeps_done, AllAtEntry, keeps_reordered}
+use Rattle.request_laws.proofs.Finds.{found_push, apart_push, found_given, apart_given, found_but, apart_but}
 use Rattle.request_laws.proofs.Answers.{answered, answered-push, answered-without, answered-without_status, answered-changed, answered-kept, answered-passed, answer_of, answered-done}
 use Rattle.place_laws.specs.Kept.{EachApart}
 
@@ -138,7 +136,7 @@ kept_issue net request parent binding kind code value k number runs may =
     let next : Net = after net (row.OidIssue request parent binding kind code value) in
     let none : found_in net request.0 ≡ None = ap (found_in net) number ∙ free net k in
     record {
-      asked = issued net.modules.order (found_in net) (answered net.things) net.next.request k.asked r number may (found_in next)
+      asked = keeps_issued net.modules.order (found_in net) (answered net.things) net.next.request k.asked r number may (found_in next)
           (λ i. found_push net.requests r i none ∙ ap (λ n. cond (i == n) (Some r) (found_in net i)) number);
       apart = apart_push net.requests r none k.apart;
       halted = λ e. absurd (runs e);
@@ -147,7 +145,7 @@ kept_issue net request parent binding kind code value k number runs may =
 -- a request that waits is given to a module
 pub kept_give : (net : Net) (request : OidNo) (m : ModuleId) (r : Request) → IsKept net → found_in net request.0 ≡ Some r → (r.at ≡ at.Entry) ⊎ (r.at ≡ at.Waiting m) → IsKept (after net (row.OidGive request m))
 kept_give net request m r k f w = record {
-  asked = given net.modules.order (found_in net) (answered net.things) net.next.request k.asked request.0 r m f w (found_in (after net (row.OidGive request m))) (found_given request.0 m net.requests);
+  asked = keeps_given net.modules.order (found_in net) (answered net.things) net.next.request k.asked request.0 r m f w (found_in (after net (row.OidGive request m))) (found_given request.0 m net.requests);
   apart = apart_given request.0 m net.requests k.apart;
   halted = λ e. absurd (none_some r (sym (ap (request_of request.0) (k.halted e)) ∙ f));
 }
@@ -159,7 +157,7 @@ kept_done net request status value r k f childless =
     let things : answered next.things ≡ answered (things_done (Some r) request status value net.things) = ap (λ o. answered (things_done o request status value net.things)) f in
     record {
       asked = subst (λ xs. AreKept net.modules.order (found_in next) xs net.next.request) (sym (things ∙ answered-done r request status value net.things))
-          (done net.modules.order (found_in net) (answered net.things) net.next.request k.asked request.0 r f childless (found_in next) (found_but request.0 net.requests) (answer_of r.parent request status value) (from r.parent));
+          (keeps_done net.modules.order (found_in net) (answered net.things) net.next.request k.asked request.0 r f childless (found_in next) (found_but request.0 net.requests) (answer_of r.parent request status value) (from r.parent));
       apart = apart_but request.0 net.requests k.apart;
       halted = λ e. absurd (none_some r (sym (ap (request_of request.0) (k.halted e)) ∙ f));
     }
@@ -171,7 +169,7 @@ kept_done net request status value r k f childless =
 -- another order, while all requests are at the entry
 pub kept_config : (net : Net) (config : ConfigNo) (filters : List ℕ) → IsKept net → AllAtEntry (found_in net) → IsKept (after net (row.Config config filters))
 kept_config net config filters k entry = record {
-  asked = reordered net.modules.order filters (found_in net) (answered net.things) net.next.request k.asked entry;
+  asked = keeps_reordered net.modules.order filters (found_in net) (answered net.things) net.next.request k.asked entry;
   apart = k.apart;
   halted = k.halted;
 }

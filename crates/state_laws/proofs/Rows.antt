@@ -25,7 +25,7 @@ abbrev pub AreQuiet : List Row → Type 0
 AreQuiet [] = Unit {0}
 AreQuiet (r ∷ rows) = (is_quiet r ≡ true) × AreQuiet rows
 
--- nor anything of a request
+-- the row tells no state, no configuration and nothing of a request
 abbrev pub is_calm : Row → Bool
 is_calm (row.OidIssue request parent binding kind code value) = false
 is_calm (row.OidGive request m) = false
