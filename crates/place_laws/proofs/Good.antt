@@ -132,12 +132,12 @@ module _ (order : List ℕ) (virtual : Bool) where
     good_changed g mild here well stays = record {
       well = λ k y f. by_number n k (IsWell y) (λ t. h.well k y (sym (others k t) ∙ f)) (λ e. let c = at k y e f in subst IsWell (sym c.2) (well c.0 c.1));
       from = λ k m c l f o e. by_number n m (IsFrom c l)
-        (λ t. let w = was k c f in from_alike w.was c l l w.owner w.direction refl refl refl (h.from k m w.was l w.found (ap cloned_from (sym w.origin) ∙ o) (sym (others m t) ∙ e)))
-        (λ same. let w = was k c f in let x = at m l same e in
-        let at_n : find m ≡ Some x.0 = ap find (sym same) ∙ x.1 in
-        let from : IsFrom w.was x.0 = h.from k m w.was x.0 w.found (ap cloned_from (sym w.origin) ∙ o) at_n in
-        let original : IsFrom w.was (g x.0) = moved k m w.was x.0 same w.found (ap cloned_from (sym w.origin) ∙ o) (stays x.0 x.1) from in
-        subst (IsFrom c) (sym x.2) (from_alike w.was c (g x.0) (g x.0) w.owner w.direction refl refl refl original));
+          (λ t. let w = was k c f in from_alike w.was c l l w.owner w.direction refl refl refl (h.from k m w.was l w.found (ap cloned_from (sym w.origin) ∙ o) (sym (others m t) ∙ e)))
+          (λ same. let w = was k c f in let x = at m l same e in
+          let at_n : find m ≡ Some x.0 = ap find (sym same) ∙ x.1 in
+          let from : IsFrom w.was x.0 = h.from k m w.was x.0 w.found (ap cloned_from (sym w.origin) ∙ o) at_n in
+          let original : IsFrom w.was (g x.0) = moved k m w.was x.0 same w.found (ap cloned_from (sym w.origin) ∙ o) (stays x.0 x.1) from in
+          subst (IsFrom c) (sym x.2) (from_alike w.was c (g x.0) (g x.0) w.owner w.direction refl refl refl original));
       single = λ k i m c d f o e q. let w = was k c f in let v = was i d e in h.single k i m w.was v.was w.found (ap cloned_from (sym w.origin) ∙ o) v.found (ap cloned_from (sym v.origin) ∙ q);
       below = λ k y f. let w = was k y f in h.below k w.was w.found;
       older = λ k m c f o. let w = was k c f in h.older k m w.was w.found (ap cloned_from (sym w.origin) ∙ o);
@@ -180,17 +180,17 @@ module _ (order : List ℕ) (virtual : Bool) where
     good_new new number here well made = record {
       well = λ k y f. by_number n k (IsWell y) (λ t. h.well k y (sym (others k t) ∙ f)) (λ e. subst IsWell (is k y e f) well);
       from = λ k m c l f o e. by_number n k (IsFrom c l)
-        (λ t. h.from k m c l (sym (others k t) ∙ f) o (old m l (older_than k m c (sym (others k t) ∙ f) o) e))
-        (λ same. let new_is : new ≡ c = is k c same f in
-        let made_of = made m (ap (λ (x : LiveList). cloned_from x.origin) new_is ∙ o) in
-        subst (λ x. IsFrom x l) new_is (made_of.2 l (old m l made_of.0 e)));
+          (λ t. h.from k m c l (sym (others k t) ∙ f) o (old m l (older_than k m c (sym (others k t) ∙ f) o) e))
+          (λ same. let new_is : new ≡ c = is k c same f in
+          let made_of = made m (ap (λ (x : LiveList). cloned_from x.origin) new_is ∙ o) in
+          subst (λ x. IsFrom x l) new_is (made_of.2 l (old m l made_of.0 e)));
       single = λ k i m c d f o e q. by_number n k (k ≡ i)
-        (λ t. by_number n i (k ≡ i)
-        (λ u. h.single k i m c d (sym (others k t) ∙ f) o (sym (others i u) ∙ e) q)
-        (λ same. absurd ((made m (ap (λ (x : LiveList). cloned_from x.origin) (is i d same e) ∙ q)).1 k c (sym (others k t) ∙ f) o)))
-        (λ one. by_number n i (k ≡ i)
-        (λ u. absurd ((made m (ap (λ (x : LiveList). cloned_from x.origin) (is k c one f) ∙ o)).1 i d (sym (others i u) ∙ e) q))
-        (λ other. sym one ∙ other));
+          (λ t. by_number n i (k ≡ i)
+          (λ u. h.single k i m c d (sym (others k t) ∙ f) o (sym (others i u) ∙ e) q)
+          (λ same. absurd ((made m (ap (λ (x : LiveList). cloned_from x.origin) (is i d same e) ∙ q)).1 k c (sym (others k t) ∙ f) o)))
+          (λ one. by_number n i (k ≡ i)
+          (λ u. absurd ((made m (ap (λ (x : LiveList). cloned_from x.origin) (is k c one f) ∙ o)).1 i d (sym (others i u) ∙ e) q))
+          (λ other. sym one ∙ other));
       below = λ k y f. by_number n k (k < next + 1) (λ t. omega (arith, h.below k y (sym (others k t) ∙ f))) (λ e. omega (arith, e, number));
       older = λ k m c f o. by_number n k (m < k) (λ t. h.older k m c (sym (others k t) ∙ f) o) (λ e. omega (arith, e, (made m (ap (λ (x : LiveList). cloned_from x.origin) (is k c e f) ∙ o)).0));
     }

@@ -1,2 +1,2 @@
-mod Spots
-mod Good
+pub mod Spots
+pub mod Good
