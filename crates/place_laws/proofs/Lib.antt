@@ -1,2 +1,4 @@
 pub mod Spots
 pub mod Good
+pub mod Looks
+pub mod Statuses
