@@ -77,6 +77,11 @@ one_found o x y h k = cc
 pub none_found : (o : Option LiveList) (x : LiveList) → o ≡ None → o ≡ Some x → ⊥
 none_found o x h k = cc
 
+-- what is found where a list has changed
+pub changed_is : (g : LiveList → LiveList) (o : Option LiveList) (y : LiveList) → option_map g o ≡ Some y → (x : LiveList) × (o ≡ Some x) × (y ≡ g x)
+changed_is g None y h = cc
+changed_is g (Some x) y h = (x, refl, sym (some_same (g x) y h))
+
 -- a change keeps whose list it is, and what it was made of
 pub record IsMild (g : LiveList → LiveList) : Type 0 where
   pub owner : (x : LiveList) → (g x).owner ≡ x.owner
@@ -120,11 +125,6 @@ module _ (order : List ℕ) (virtual : Bool) where
     owner : y.owner ≡ was.owner
     direction : y.direction ≡ was.direction
     origin : y.origin ≡ was.origin
-
-  -- what is found where a list has changed
-  pub changed_is : (g : LiveList → LiveList) (o : Option LiveList) (y : LiveList) → option_map g o ≡ Some y → (x : LiveList) × (o ≡ Some x) × (y ≡ g x)
-  changed_is g None y h = cc
-  changed_is g (Some x) y h = (x, refl, sym (some_same (g x) y h))
 
   module _ (next : ℕ) (find later : ℕ → Option LiveList) (n : ℕ) (others : (m : ℕ) → (n == m) ≡ false → later m ≡ find m) (h : AreGood next find) where
     -- a list has changed

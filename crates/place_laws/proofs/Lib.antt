@@ -2,3 +2,5 @@ pub mod Spots
 pub mod Good
 pub mod Looks
 pub mod Statuses
+pub mod Rows
+pub mod Routes
