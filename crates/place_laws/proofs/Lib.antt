@@ -4,3 +4,5 @@ pub mod Looks
 pub mod Statuses
 pub mod Rows
 pub mod Routes
+pub mod Keepers
+pub mod Clones

@@ -32,6 +32,11 @@ use Rattle.place_laws.proofs.Rows.{IsAlike, Goes, goes_pass, goes_back, goes_iss
 pub status_up : (ms : Modules) (i : ℕ) → GoesUp (next_status ms i)
 status_up ms i = found_or GoesUp (has_status ms) (filters_above ms i) Bindings (λ f h x. refl) tt
 
+-- a list that was live at the turn's begin, and had no clone
+pub record IsFree (start : Net) (l : LiveList) : Type 0 where
+  pub found : look start l.list.0 ≡ Some l
+  pub free : IsUncloned (look start) l.list.0
+
 module _ (ms : Modules) (virtual : Bool) (d : IsDistinct ms.order) where
   -- where lists go next
   pub down_stands : (i : ℕ) (owner : ModuleId) → position ms.order owner ≤ i → StandsAt ms.order true owner (stand.Passed way.Down (next_down ms i))
@@ -90,12 +95,7 @@ module _ (ms : Modules) (virtual : Bool) (d : IsDistinct ms.order) where
       (λ x f. let s = same x f in subst (λ o. StandsAt ms.order (is_down x.direction) o (stand.Passed way.Up (next_up ms i))) (sym s.0)
       (subst (λ b. StandsAt ms.order b owner (stand.Passed way.Up (next_up ms i))) (sym (ap is_down s.1)) (up_stands i owner (up refl)))) h
 
-  -- a list that was live at the turn's begin, and had no clone
-  pub record IsFree (start : Net) (l : LiveList) : Type 0 where
-    pub found : look start l.list.0 ≡ Some l
-    pub free : IsUncloned (look start) l.list.0
-
-  same_as : (start net : Net) (l : LiveList) → IsFree start l → Goes ms.order virtual start net → (x : LiveList) → look net l.list.0 ≡ Some x → (x.owner ≡ l.owner) × (x.direction ≡ l.direction)
+  pub same_as : (start net : Net) (l : LiveList) → IsFree start l → Goes ms.order virtual start net → (x : LiveList) → look net l.list.0 ≡ Some x → (x.owner ≡ l.owner) × (x.direction ≡ l.direction)
   same_as start net l w h x f = let a : IsAlike x l = was_start ms.order virtual start net h l.list.0 l x w.found f in (a.owner, a.direction)
 
   pub home_from : (start net : Net) (l : LiveList) (i : ℕ) (status : ListStatus) → IsFree start l → Goes ms.order virtual start net → Goes ms.order virtual start (after net (homeward ms l i status))
