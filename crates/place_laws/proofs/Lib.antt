@@ -6,3 +6,7 @@ pub mod Rows
 pub mod Routes
 pub mod Keepers
 pub mod Clones
+pub mod Sends
+pub mod Homes
+pub mod Receives
+pub mod Lent
