@@ -10,3 +10,6 @@ pub mod Sends
 pub mod Homes
 pub mod Receives
 pub mod Lent
+pub mod Drains
+pub mod Events
+pub mod Turns
