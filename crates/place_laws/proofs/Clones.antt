@@ -1,5 +1,5 @@
 -- A list at a filter: it is passed on, kept or turned back, or kept while a clone goes on.
-use Rattle.std.proofs.Common.{◌≡◌, ℕ, ◌+◌, ◌<◌, ◌≤◌, ◌==◌, ◌&&◌, inl, inr, Bool, true, false, cond, List, [], ◌∷◌, Option, Some, None, option_map, length, refl, arith, ap, sym, subst, ◌∙◌}
+use Rattle.std.proofs.Common.{◌≡◌, ℕ, ◌+◌, ◌<◌, ◌==◌, ◌&&◌, inr, Bool, true, false, cond, List, [], ◌∷◌, Option, Some, None, option_map, refl, arith, ap, sym, subst, ◌∙◌}
 use Rattle.std.proofs.lemmas.Bool.Decides.{nat_tests}
 use Rattle.ndis_base.specs.declared.ModuleId.{ModuleId}
 use Rattle.ndis_base.specs.declared.ModuleId.TheVariants.{Filter}
@@ -10,7 +10,6 @@ use Rattle.journal_types.specs.declared.Row.{Row}
 use Rattle.journal_types.specs.declared.Row.TheVariants as row
 use Rattle.stack_rules.specs.declared.LiveList.{LiveList}
 use Rattle.stack_rules.specs.declared.Attached.{Attached}
-use Rattle.stack_rules.specs.declared.Stand.TheVariants as stand
 use Rattle.stack_rules.specs.declared.Thing.TheVariants as thing
 use Rattle.stack_rules.specs.Tests.{is_down, is_hold, is_virtual, same_frames}
 use Rattle.stack_rules.specs.Net.{Net, after, after_rows}
@@ -19,10 +18,10 @@ use Rattle.stack_rules.specs.Outcome.{list_no, config_no}
 use Rattle.stack_rules.specs.Handled.{stays, changes, cloned, handled_as, made_of, filter_rows, given_by}
 use Rattle.state_laws.proofs.Rows.{by_test}
 use Rattle.place_laws.proofs.Spots.{in_above}
-use Rattle.place_laws.proofs.Good.{IsPast, MayFrom, cloned_from, IsUncloned, by_number, some_same, one_found, IsMild, IsWell, IsFrom, AreGood, changed_is, good_changed, good_new}
-use Rattle.place_laws.proofs.Looks.{look, IsUpdate, keeping, issued, look_keep, look_issue}
+use Rattle.place_laws.proofs.Good.{IsPast, cloned_from, IsUncloned, by_number, some_same, one_found, IsMild, IsWell, IsFrom, AreGood, changed_is, good_changed, good_new}
+use Rattle.place_laws.proofs.Looks.{look, keeping, issued, look_keep, look_issue}
 use Rattle.place_laws.proofs.Statuses.{up_append, up_kept}
-use Rattle.place_laws.proofs.Rows.{IsAlike, IsGood, Goes, goes_start, goes_give, goes_keep, next_free, still_uncloned, was_start}
+use Rattle.place_laws.proofs.Rows.{keeping_mild, IsGood, goes_start, goes_give, goes_keep, next_free, still_uncloned, was_start}
 use Rattle.place_laws.proofs.Routes.{IsFree, go_on, back_from, on_from, same_as, newest_free}
 use Rattle.place_laws.proofs.Keepers.{Good, Going, Facts}
 
@@ -54,9 +53,6 @@ pub filter_keeps : (net next : Net) → Facts net → (f : ℕ) (l : LiveList) �
 filter_keeps net next facts f l m h =
     goes_keep net.modules.order (is_virtual net.head.kind) net next l.list (Filter f) (still_uncloned net.modules.order (is_virtual net.head.kind) net next h l.list.0 m.free.free)
     (λ x e. let a = same_as net.modules (is_virtual net.head.kind) facts.distinct net next l m.free h x e in (past_same net.modules.order f x l a.0 a.1 m.past, still_apart net next l x h m.free.found e m.apart)) h
-
-keeping_mild : (m : ModuleId) → IsMild (keeping m)
-keeping_mild m = record { owner = λ x. refl; direction = λ x. refl; origin = λ x. refl }
 
 less_apart : (k n : ℕ) → k < n → (n == k) ≡ false
 less_apart k n a = grind (arith, nat_tests)

@@ -1,12 +1,11 @@
 -- Cancels and drains: several lists move in one turn.
-use Rattle.std.proofs.Common.{◌≡◌, ℕ, Bool, true, false, List, [], ◌∷◌, ◌++◌, Option, Some, None, map, refl, arith, ap, sym, subst, ◌∙◌}
+use Rattle.std.proofs.Common.{◌≡◌, ℕ, List, [], ◌∷◌, ◌++◌, Option, Some, None, map, refl, arith, sym, subst}
 use Rattle.std.specs.List.{flat_map}
 use Rattle.ndis_base.specs.declared.ModuleId.{ModuleId}
 use Rattle.ndis_base.specs.declared.ModuleId.TheVariants.{Miniport, Filter, Binding}
 use Rattle.ndis_base.specs.declared.ListStatus.TheVariants.{Success, Paused, Aborted}
 use Rattle.journal_types.specs.declared.Row.{Row}
 use Rattle.stack_rules.specs.declared.LiveList.{LiveList}
-use Rattle.stack_rules.specs.declared.Stand.{Stand}
 use Rattle.stack_rules.specs.Tests.{is_down, is_retain, is_virtual, phase_is_running}
 use Rattle.stack_rules.specs.Net.{Net, after, after_rows, kind_of_binding, binding_numbers}
 use Rattle.stack_rules.specs.Places.{position, ready_lists}
@@ -20,7 +19,7 @@ use Rattle.pause_laws.proofs.Works.{each_first}
 use Rattle.pause_laws.proofs.Keepers.{each_of}
 use Rattle.place_laws.proofs.Good.{IsPast, StandsAt}
 use Rattle.place_laws.proofs.Routes.{home_from, back_from, on_from}
-use Rattle.place_laws.proofs.Keepers.{Good, Going, Facts, IsReady, ready_all}
+use Rattle.place_laws.proofs.Keepers.{Going, Facts, IsReady, ready_all}
 use Rattle.place_laws.proofs.Clones.{Leaves}
 use Rattle.place_laws.proofs.Sends.{begins, transmitted_leaves}
 

@@ -1,5 +1,5 @@
 -- Each event that changes no state of a module leaves everything in place.
-use Rattle.std.proofs.Common.{◌≡◌, ℕ, ◌+◌, not, Bool, true, false, cond, List, [], ◌∷◌, Option, Some, None, find, inl, inr, refl, arith, ap, sym, subst, ◌∙◌}
+use Rattle.std.proofs.Common.{◌≡◌, ℕ, ◌+◌, not, Bool, true, false, cond, List, [], ◌∷◌, Option, Some, None, find, inl, refl, ap, sym, subst, ◌∙◌}
 use Rattle.std.specs.List.{list_any}
 use Rattle.ndis_base.specs.declared.ModuleId.{ModuleId}
 use Rattle.ndis_base.specs.declared.ModuleId.TheVariants.{Miniport, Filter, Binding}
@@ -38,20 +38,19 @@ use Rattle.stack_rules.specs.Requests.{Giving, given_rows_by, giving_rows, next_
 use Rattle.stack_rules.specs.Statuses.{seen_by_all, status_rows}
 use Rattle.stack_rules.specs.Crosses.{first_uncrossed, take_of, done_of, take_up_of, grows_too_long, mux_binding_for, is_in_message}
 use Rattle.stack_rules.specs.Sound.{outcome}
-use Rattle.rule_basics.specs.Live.{Each}
 use Rattle.rule_basics.proofs.Lives.{find_is}
 use Rattle.state_laws.proofs.Rows.{by_test}
 use Rattle.state_laws.proofs.Quiet.{is_plain}
 use Rattle.state_laws.proofs.Events.{state_after}
 use Rattle.pause_laws.proofs.Works.{each_find, each_away}
 use Rattle.pause_laws.proofs.Keepers.{kept_is}
-use Rattle.place_laws.proofs.Good.{IsPast, StandsAt, MayStand, IsWell, IsMild, AreGood, one_found, good_changed, unkept}
+use Rattle.place_laws.proofs.Good.{StandsAt, IsWell, AreGood, one_found, good_changed, unkept}
 use Rattle.place_laws.proofs.Looks.{look, look_out}
 use Rattle.place_laws.proofs.Statuses.{up_changed}
-use Rattle.place_laws.proofs.Rows.{IsGood, is_skipped, goes_skip, goes_status}
+use Rattle.place_laws.proofs.Rows.{is_skipped, goes_skip, goes_status}
 use Rattle.place_laws.proofs.Routes.{IsFree, status_up, home_from}
 use Rattle.place_laws.proofs.Keepers.{Good, Going, Facts, all_found, IsKeptLive, kept_live, kept_free, miniport_free}
-use Rattle.place_laws.proofs.Clones.{Leaves, MayHave}
+use Rattle.place_laws.proofs.Clones.{Leaves}
 use Rattle.place_laws.proofs.Sends.{begins, down_leaves, miniport_leaves, indicated_goes, sent_goes, transmit_leaves}
 use Rattle.place_laws.proofs.Homes.{homeward_leaves}
 use Rattle.place_laws.proofs.Receives.{delivery_leaves, up_leaves}
@@ -171,11 +170,11 @@ taken_leaves net facts l message v kept =
     let good : AreGood order virtual net.next.list (look net) = facts.good.good in
     record {
       good = good_changed order virtual net.next.list (look net) (look next) l.list.0 u.others good (taken_by message.0) record { owner = λ x. refl; direction = λ x. refl; origin = λ x. refl } u.here
-        (λ x f.
-        let w : IsWell order virtual x = good.well l.list.0 x f in
-        let is : l ≡ x = one_found (look net l.list.0) l x kept.found f in
-        record { down = w.down; up = w.up; stands = w.stands; crossed = λ t. (ap (λ (y : LiveList). y.stand) (sym is) ∙ kept.stand, v) })
-        (λ x f. inl refl);
+          (λ x f.
+          let w : IsWell order virtual x = good.well l.list.0 x f in
+          let is : l ≡ x = one_found (look net l.list.0) l x kept.found f in
+          record { down = w.down; up = w.up; stands = w.stands; crossed = λ t. (ap (λ (y : LiveList). y.stand) (sym is) ∙ kept.stand, v) })
+          (λ x f. inl refl);
       statuses = up_changed l.list.0 (taken_by message.0) net.things facts.good.statuses;
     }
 

@@ -1,5 +1,5 @@
 -- A list on its way home.
-use Rattle.std.proofs.Common.{◌≡◌, ℕ, ◌==◌, true, false, Option, Some, None, refl, arith, ap, sym, subst, ◌∙◌}
+use Rattle.std.proofs.Common.{◌≡◌, ℕ, ◌==◌, false, Option, Some, None, refl, arith, ap, sym, subst, ◌∙◌}
 use Rattle.std.proofs.lemmas.Bool.Decides.{nat_tests}
 use Rattle.ndis_base.specs.declared.ModuleId.{ModuleId}
 use Rattle.ndis_base.specs.declared.ListStatus.{ListStatus}
@@ -10,7 +10,7 @@ use Rattle.stack_rules.specs.declared.LiveList.{LiveList}
 use Rattle.stack_rules.specs.Tests.{is_virtual, same_module}
 use Rattle.stack_rules.specs.Net.{Net, after, after_rows, lists, list_of}
 use Rattle.stack_rules.specs.Places.{position}
-use Rattle.stack_rules.specs.Dones.{released, released_list, home_rows, homeward_rows, completed_by}
+use Rattle.stack_rules.specs.Dones.{released, released_list, homeward_rows, completed_by}
 use Rattle.rule_basics.proofs.Lives.{find_is}
 use Rattle.state_laws.proofs.Rows.{by_test}
 use Rattle.place_laws.proofs.Good.{cloned_from, IsUncloned, by_number, none_found}

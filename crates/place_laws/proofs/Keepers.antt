@@ -1,5 +1,5 @@
 -- The lists that an event works: they are live, and have no clone.
-use Rattle.std.proofs.Common.{◌≡◌, ℕ, ◌==◌, ◌||◌, not, Bool, true, false, cond, List, [], ◌∷◌, Option, Some, None, filter, refl, arith, ap, sym, subst, ◌∙◌}
+use Rattle.std.proofs.Common.{◌≡◌, ℕ, ◌==◌, ◌||◌, not, Bool, true, false, cond, List, [], ◌∷◌, Option, Some, refl, arith, ap, sym, ◌∙◌}
 use Rattle.std.specs.List.{list_any}
 use Rattle.std.proofs.lemmas.Bool.Decides.{nat_tests}
 use Rattle.ndis_base.specs.declared.ModuleId.{ModuleId}
@@ -10,12 +10,12 @@ use Rattle.stack_rules.specs.declared.LiveList.{LiveList}
 use Rattle.stack_rules.specs.declared.Stand.TheVariants as stand
 use Rattle.stack_rules.specs.Tests.{is_virtual}
 use Rattle.stack_rules.specs.Net.{Net, lists, list_of}
-use Rattle.stack_rules.specs.Places.{is_kept_by, kept_lists, ready_lists, waits, is_clone_of, has_clone, is_crossed, agenda_first}
+use Rattle.stack_rules.specs.Places.{is_kept_by, kept_lists, ready_lists, waits, is_clone_of, has_clone, is_crossed}
 use Rattle.rule_basics.specs.Live.{is_live, IsApart, Each}
 use Rattle.rule_basics.proofs.Lives.{find_is}
 use Rattle.rule_basics.proofs.Each.{Each-implies}
 use Rattle.state_laws.specs.Shape.{IsDistinct}
-use Rattle.pause_laws.proofs.Works.{each_filter, each_away}
+use Rattle.pause_laws.proofs.Works.{each_filter}
 use Rattle.pause_laws.proofs.Keepers.{kept_is}
 use Rattle.place_laws.proofs.Good.{cloned_from, IsUncloned, some_same, unkept}
 use Rattle.place_laws.proofs.Looks.{look}

@@ -1,6 +1,6 @@
 -- Receives on their way up, and their delivery.
-use Rattle.std.proofs.Common.{◌≡◌, ℕ, ◌+◌, ◌&&◌, Bool, true, false, List, [], ◌∷◌, ◌++◌, Option, Some, None, refl, arith, ap, sym, subst, ◌∙◌}
-use Rattle.ndis_base.specs.declared.ModuleId.TheVariants.{Miniport, Filter, Binding}
+use Rattle.std.proofs.Common.{◌≡◌, ℕ, ◌+◌, ◌&&◌, Bool, false, List, [], ◌∷◌, Option, Some, None, refl, ap, sym, subst, ◌∙◌}
+use Rattle.ndis_base.specs.declared.ModuleId.TheVariants.{Filter, Binding}
 use Rattle.ndis_base.specs.declared.ListNo.{ListNo}
 use Rattle.ndis_base.specs.declared.ListStatus.TheVariants.{Success, Paused}
 use Rattle.journal_types.specs.declared.How.{How}
@@ -13,7 +13,7 @@ use Rattle.stack_rules.specs.declared.Attached.{Attached}
 use Rattle.stack_rules.specs.Tests.{is_down, is_virtual, is_running, is_retain, phase_is_running}
 use Rattle.stack_rules.specs.Net.{Net, after, after_rows, attached, kind_of_binding}
 use Rattle.stack_rules.specs.Places.{is_crossed}
-use Rattle.stack_rules.specs.Deliveries.{takers, echoes, echoed, how_for, delivered, last_of, settled, delivery_rows}
+use Rattle.stack_rules.specs.Deliveries.{takers, echoes, echoed, how_for, delivered, last_of, settled}
 use Rattle.stack_rules.specs.Receives.{up_at_filter, up_rows}
 use Rattle.state_laws.proofs.Rows.{by_test, after_rows-append}
 use Rattle.state_laws.proofs.Takes.{attached-is}

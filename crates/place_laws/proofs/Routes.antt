@@ -1,7 +1,7 @@
 -- Where lists go on and homewards they may stand, and so do new lists that go on.
-use Rattle.std.proofs.Common.{◌≡◌, ℕ, ◌+◌, ◌-◌, ◌<◌, ◌≤◌, ◌⊎◌, inl, inr, Bool, true, false, List, [], ◌∷◌, Option, Some, None, length, take, drop, reverse, refl, arith, ap, sym, subst, ◌∙◌}
+use Rattle.std.proofs.Common.{◌≡◌, ℕ, ◌+◌, ◌-◌, ◌<◌, ◌≤◌, inl, inr, Bool, true, false, List, [], ◌∷◌, Option, Some, None, length, take, drop, reverse, refl, arith, ap, sym, subst, ◌∙◌}
 use Rattle.ndis_base.specs.declared.ModuleId.{ModuleId}
-use Rattle.ndis_base.specs.declared.ModuleId.TheVariants.{Miniport, Filter}
+use Rattle.ndis_base.specs.declared.ModuleId.TheVariants.{Miniport}
 use Rattle.ndis_base.specs.declared.ListNo.{ListNo}
 use Rattle.ndis_base.specs.declared.ListStatus.{ListStatus}
 use Rattle.ndis_base.specs.declared.ConfigNo.{ConfigNo}
@@ -9,9 +9,7 @@ use Rattle.ndis_base.specs.declared.Direction.{Direction}
 use Rattle.ndis_base.specs.declared.Direction.TheVariants as direction
 use Rattle.ndis_base.specs.declared.Origin.{Origin}
 use Rattle.journal_types.specs.declared.PassWay.TheVariants as way
-use Rattle.journal_types.specs.declared.Target.{Target}
 use Rattle.journal_types.specs.declared.Target.TheVariants.{Module, Bindings}
-use Rattle.journal_types.specs.declared.Row.{Row}
 use Rattle.journal_types.specs.declared.Row.TheVariants as row
 use Rattle.stack_rules.specs.declared.LiveList.{LiveList}
 use Rattle.stack_rules.specs.declared.Stand.TheVariants as stand
@@ -24,7 +22,7 @@ use Rattle.state_laws.specs.Shape.{IsDistinct}
 use Rattle.pause_laws.proofs.Places.{found_or}
 use Rattle.place_laws.specs.Kept.{GoesUp}
 use Rattle.place_laws.proofs.Spots.{in_drop, in_take, in_reverse, drop_low, take_high, drop_take_low}
-use Rattle.place_laws.proofs.Good.{IsPast, StandsAt, cloned_from, IsUncloned, one_found, AreGood}
+use Rattle.place_laws.proofs.Good.{StandsAt, cloned_from, IsUncloned, one_found, AreGood}
 use Rattle.place_laws.proofs.Looks.{look, issued, look_issue}
 use Rattle.place_laws.proofs.Rows.{IsAlike, Goes, goes_pass, goes_back, goes_issue, next_free, still_uncloned, was_start}
 

@@ -1,6 +1,6 @@
 -- What each row of a turn leaves in place: the lists stand where they may, the statuses go up, and each list that
 -- was live at the turn's begin is alike what it was.
-use Rattle.std.proofs.Common.{◌≡◌, ℕ, ◌+◌, ◌<◌, ◌≤◌, ◌==◌, ◌⊎◌, inl, inr, nat_lt, Bool, true, false, not, List, [], ◌∷◌, ◌++◌, Option, Some, None, option_map, length, refl, arith, ap, sym, subst, ◌∙◌}
+use Rattle.std.proofs.Common.{◌≡◌, ℕ, ◌+◌, ◌<◌, ◌≤◌, ◌==◌, ◌⊎◌, inl, inr, nat_lt, Bool, true, false, not, List, [], ◌∷◌, Option, Some, None, option_map, length, refl, arith, ap, sym, subst, ◌∙◌}
 use Rattle.std.proofs.lemmas.Bool.Decides.{nat_tests}
 use Rattle.ndis_base.specs.declared.ModuleId.{ModuleId}
 use Rattle.ndis_base.specs.declared.ListNo.{ListNo}
@@ -25,7 +25,7 @@ use Rattle.stack_rules.specs.Places.{position, is_crossed}
 use Rattle.rule_basics.specs.Live.{is_live}
 use Rattle.rule_basics.proofs.Numbered.{lists-things_done, lists-status, lists-without_status}
 use Rattle.place_laws.specs.Kept.{GoesUp}
-use Rattle.place_laws.proofs.Good.{StandsAt, MayStand, cloned_from, IsUncloned, by_number, some_same, one_found, none_found, IsMild, IsWell, AreGood, changed_is, good_changed, good_gone, good_new, good_same}
+use Rattle.place_laws.proofs.Good.{StandsAt, cloned_from, IsUncloned, by_number, one_found, none_found, IsMild, IsWell, AreGood, changed_is, good_changed, good_gone, good_new, good_same}
 use Rattle.place_laws.proofs.Looks.{look, IsUpdate, passing, keeping, issued, look_pass, look_keep, look_give, look_back, look_home, look_issue, not_live}
 use Rattle.place_laws.proofs.Statuses.{AllGoUp, up_filter, up_append, up_changed, up_kept, up_passed, up_done}
 
@@ -98,7 +98,7 @@ had_mild m = record { owner = λ x. refl; direction = λ x. refl; origin = λ x.
 passing_mild : (way : PassWay) (to : Target) → IsMild (passing way to)
 passing_mild way to = record { owner = λ x. refl; direction = λ x. refl; origin = λ x. refl }
 
-keeping_mild : (m : ModuleId) → IsMild (keeping m)
+pub keeping_mild : (m : ModuleId) → IsMild (keeping m)
 keeping_mild m = record { owner = λ x. refl; direction = λ x. refl; origin = λ x. refl }
 
 -- the row moves no list and is no status

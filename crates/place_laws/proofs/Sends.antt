@@ -1,9 +1,7 @@
 -- A send on its way down, and what a ring or loop adapter transmits.
-use Rattle.std.proofs.Common.{◌≡◌, ℕ, ◌+◌, ◌<◌, ◌≤◌, Bool, true, false, cond, List, [], ◌∷◌, ◌++◌, Option, Some, None, length, refl, arith, ap, sym, subst, ◌∙◌}
-use Rattle.ndis_base.specs.declared.ModuleId.{ModuleId}
+use Rattle.std.proofs.Common.{◌≡◌, ℕ, Bool, true, false, cond, List, [], ◌∷◌, ◌++◌, Option, Some, None, refl, arith, ap, sym, subst, ◌∙◌}
 use Rattle.ndis_base.specs.declared.ModuleId.TheVariants.{Miniport, Filter, Binding}
 use Rattle.ndis_base.specs.declared.ListStatus.TheVariants.{Success, Resources}
-use Rattle.ndis_base.specs.declared.Direction.{Direction}
 use Rattle.ndis_base.specs.declared.Direction.TheVariants as direction
 use Rattle.ndis_base.specs.declared.Origin.TheVariants as origin
 use Rattle.journal_types.specs.declared.Handler.TheVariants as handler
@@ -14,13 +12,13 @@ use Rattle.stack_rules.specs.declared.Attached.{Attached}
 use Rattle.stack_rules.specs.Tests.{is_down, is_virtual}
 use Rattle.stack_rules.specs.Net.{Net, after, after_rows, attached}
 use Rattle.stack_rules.specs.Places.{position, is_crossed, kept_lists}
-use Rattle.stack_rules.specs.Targets.{onward, homeward, turned_back}
+use Rattle.stack_rules.specs.Targets.{onward, homeward}
 use Rattle.stack_rules.specs.Outcome.{list_no, config_no, root}
 use Rattle.stack_rules.specs.Sends.{ring_is_full, at_filter, down_rows, loops, transmitted, transmit_of, first_of, first_in_ring}
 use Rattle.state_laws.proofs.Rows.{by_test}
 use Rattle.state_laws.proofs.Takes.{attached-is}
 use Rattle.pause_laws.proofs.Works.{each_first}
-use Rattle.place_laws.proofs.Rows.{Goes, goes_start, goes_give, goes_keep, goes_skip, still_uncloned}
+use Rattle.place_laws.proofs.Rows.{goes_start, goes_give, goes_keep, goes_skip, still_uncloned}
 use Rattle.place_laws.proofs.Routes.{IsFree, home_from, back_from, issue_on, same_as}
 use Rattle.place_laws.proofs.Keepers.{Good, Going, Facts, IsKeptLive, kept_live, miniport_free}
 use Rattle.place_laws.proofs.Clones.{Leaves, MayHave, still_apart, filter_leaves}

@@ -1,5 +1,5 @@
 -- Statuses go up after each change of the list of things.
-use Rattle.std.proofs.Common.{◌≡◌, ℕ, ◌==◌, not, Bool, true, false, cond, List, [], ◌∷◌, ◌++◌, Option, Some, None, refl, filter}
+use Rattle.std.proofs.Common.{ℕ, ◌==◌, not, Bool, true, false, cond, List, [], ◌∷◌, ◌++◌, Option, Some, None, filter}
 use Rattle.ndis_base.specs.declared.OidNo.{OidNo}
 use Rattle.ndis_base.specs.declared.OidStatus.{OidStatus}
 use Rattle.ndis_base.specs.declared.ModuleId.{ModuleId}
@@ -7,7 +7,6 @@ use Rattle.journal_types.specs.declared.PassWay.{PassWay}
 use Rattle.journal_types.specs.declared.Target.{Target}
 use Rattle.stack_rules.specs.declared.LiveList.{LiveList}
 use Rattle.stack_rules.specs.declared.Request.{Request}
-use Rattle.stack_rules.specs.declared.StatusAway.{StatusAway}
 use Rattle.stack_rules.specs.declared.Thing.{Thing}
 use Rattle.stack_rules.specs.declared.Thing.TheVariants as thing
 use Rattle.stack_rules.specs.Net.{lists, list_of, is_list, without, changed, at_end, kept, kept_by, passed, passed_to, answers, answer_to, things_done}

@@ -1,8 +1,7 @@
 -- After each sound journal each list, status and filter stands in place.
-use Rattle.std.proofs.Common.{◌≡◌, ℕ, ◌+◌, ◌<◌, ◌≤◌, ◌≢◌, ◌==◌, ◌||◌, ◌⊎◌, inl, inr, Bool, true, false, List, [], ◌∷◌, ◌++◌, Option, Some, None, length, replicate, refl, arith, ap, sym, subst, ◌∙◌}
+use Rattle.std.proofs.Common.{◌≡◌, ℕ, ◌+◌, ◌≢◌, ◌==◌, ◌||◌, ◌⊎◌, inl, inr, Bool, true, false, List, [], ◌∷◌, ◌++◌, Option, Some, None, length, refl, arith, ap, sym, subst, ◌∙◌}
 use Rattle.std.proofs.lemmas.Bool.Decides.{nat_tests}
 use Rattle.std.proofs.lemmas.List.{length-replicate}
-use Rattle.ndis_base.specs.declared.ModuleId.{ModuleId}
 use Rattle.ndis_base.specs.declared.ModuleId.TheVariants.{Miniport, Filter, Binding}
 use Rattle.ndis_base.specs.declared.ModuleState.{ModuleState}
 use Rattle.ndis_base.specs.declared.ModuleState.TheVariants as state
@@ -23,9 +22,8 @@ use Rattle.stack_rules.specs.Net.{Net, Modules, start, after_turn, after_turns, 
 use Rattle.stack_rules.specs.Places.{state_in}
 use Rattle.stack_rules.specs.Rewires.{is_in}
 use Rattle.stack_rules.specs.Sound.{Next, outcome, SoundFrom, Sound}
-use Rattle.rule_basics.specs.Live.{Each}
 use Rattle.rule_basics.proofs.Each.{Each-implies}
-use Rattle.state_laws.specs.Shape.{state_at, FiltersAre, StatesAre, IsDistinct, IsWired, IsShaped}
+use Rattle.state_laws.specs.Shape.{state_at, FiltersAre, StatesAre, IsDistinct, IsShaped}
 use Rattle.state_laws.proofs.Rows.{IsSame}
 use Rattle.state_laws.proofs.Quiet.{is_plain}
 use Rattle.state_laws.proofs.Takes.{attached-is, NoneDetached}
@@ -34,13 +32,13 @@ use Rattle.state_laws.proofs.Events.{state_after, at_phase, event_kept, plain_sa
 use Rattle.pause_laws.specs.Clear.{IsHeld}
 use Rattle.pause_laws.proofs.Fronts.{none_live}
 use Rattle.pause_laws.proofs.Turns.{held_journal}
-use Rattle.place_laws.specs.Kept.{Stands, IsPlaced, IsOriginal, HasOriginal, IsOrdered}
-use Rattle.place_laws.specs.Listed.{IsListed, EachIsListed}
+use Rattle.place_laws.specs.Kept.{Stands, IsPlaced, HasOriginal}
+use Rattle.place_laws.specs.Listed.{EachIsListed}
 use Rattle.place_laws.proofs.Good.{StandsAt, cloned_from, IsWell, IsFrom, AreGood, good_none}
 use Rattle.place_laws.proofs.Looks.{look}
 use Rattle.place_laws.proofs.Statuses.{AllGoUp}
 use Rattle.place_laws.proofs.Rows.{IsGood}
-use Rattle.place_laws.proofs.Keepers.{Good, Facts, all_found}
+use Rattle.place_laws.proofs.Keepers.{Good, all_found}
 use Rattle.place_laws.proofs.Events.{plain_leaves}
 
 -- no filter is twice in the order
@@ -67,8 +65,8 @@ plain_good net e c p h g =
 changed_good : (net next : Net) (h : IsHeld net) → IsChanged net next h.shape → Good net net → Good next next
 changed_good net next h c g = record {
   good = subst (λ (head : StackHead). AreGood next.modules.order (is_virtual head.kind) next.next.list (look next)) (sym c.head)
-    (subst (λ n. AreGood next.modules.order (is_virtual net.head.kind) n (look next)) (sym c.list)
-    (subst (λ ts. AreGood next.modules.order (is_virtual net.head.kind) net.next.list (λ n. list_of n (lists ts))) (sym c.things) (by c.kind)));
+      (subst (λ n. AreGood next.modules.order (is_virtual net.head.kind) n (look next)) (sym c.list)
+      (subst (λ ts. AreGood next.modules.order (is_virtual net.head.kind) net.next.list (λ n. list_of n (lists ts))) (sym c.things) (by c.kind)));
   statuses = subst AllGoUp (sym c.things) g.statuses;
 }
   where
