@@ -1,0 +1,6 @@
+pub mod Reached
+pub mod Bounded
+pub mod Resting
+pub mod Rested
+pub mod Lent
+pub mod Rests
