@@ -1,5 +1,6 @@
 use Rattle.std.proofs.Common.{◌≡◌, map}
 use Rattle.first_form.specs.First.{steps_to_go}
+use Rattle.stack_runs.specs.Adds.{Adds, AreMoves}
 use Rattle.stack_runs.specs.Runs.{IsBetween}
 use Rattle.stack_runs.proofs.pump_all.Given as goal
 
@@ -13,6 +14,7 @@ invariant-loop g l = record {
     protocols = map (λ d. (goal.ProtocolDriver-dyn g (d.vtable, d.value)).state d.value) l.book.protocols.items;
   });
   head : l.book.core.head ≡ l.initial.book.core.head;
+  added : Adds (AreMoves l.who) l.initial.book.core.turns l.book.core.turns;
   phase : l.book.core.tray.net.phase ≡ l.initial.book.core.tray.net.phase;
 }
 
