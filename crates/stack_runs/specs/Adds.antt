@@ -8,15 +8,19 @@ use Rattle.journal_types.specs.declared.Event.TheVariants as event
 use Rattle.journal_types.specs.declared.Reply.{Reply}
 use Rattle.journal_types.specs.declared.Reply.TheVariants as reply
 use Rattle.journal_types.specs.declared.Turn.{Turn}
+use Rattle.home_laws.specs.Rows.{rows_of}
+use Rattle.stack_book.specs.Views.{BookView}
+use Rattle.stack_book.specs.Drivers.{DriversDid}
 use Rattle.promise_rules.specs.declared.Opening.{Opening}
 use Rattle.promise_rules.specs.declared.Ending.{Ending}
 use Rattle.promise_rules.specs.declared.Ending.TheVariants as ending
 use Rattle.promise_rules.specs.Own.{opening_event, opening_after, ending_event, ending_after}
 
--- turns of this kind were added
-pub record Adds (Kind : List Turn → Type 0) (old new : List Turn) : Type 0 where
+-- turns of this kind were added, and the drivers did what their rows say
+pub record Adds (Kind : List Turn → Type 0) (old new : BookView) : Type 0 where
   pub more : List Turn
-  pub turns : new ≡ old ++ more
+  pub turns : new.core.turns ≡ old.core.turns ++ more
+  pub drivers : DriversDid old new (rows_of more)
   pub kind : Kind more
 
 -- the turn asks for this event, and is answered so

@@ -42,7 +42,7 @@ pub fn open_stack(book: &mut Book, alloc: Global) -> Result<(), OutOfMemory>
     requires halted { IsAt (⟦<Book as Shown>⟧.shown book.old) Phase.Halted }
     ensures between { IsBetween (⟦<Book as Shown>⟧.shown book.new) }
     ensures running { OnOk result (Runs (⟦<Book as Shown>⟧.shown book.old) (⟦<Book as Shown>⟧.shown book.new) Phase.Running) }
-    ensures added { OnOk result (Adds (OpensTo Initialising Opened) (⟦<Book as Shown>⟧.shown book.old).core.turns (⟦<Book as Shown>⟧.shown book.new).core.turns) }
+    ensures added { OnOk result (Adds (OpensTo Initialising Opened) (⟦<Book as Shown>⟧.shown book.old) (⟦<Book as Shown>⟧.shown book.new)) }
 {
     ask(book, alloc, Who::Own, Event::Initialize)?;
     ask(book, alloc, Who::Own, Event::RestartNext)?;
@@ -84,7 +84,7 @@ fn pump_once(book: &mut Book, alloc: Global, who: Who) -> Result<bool, OutOfMemo
     ensures between { IsBetween (⟦<Book as Shown>⟧.shown book.new) }
     ensures runs { OnOk result (Runs (⟦<Book as Shown>⟧.shown book.old) (⟦<Book as Shown>⟧.shown book.new) (⟦<Book as Shown>⟧.shown book.old).core.tray.net.phase) }
     ensures fewer { IfOk result (λ moved. moved ≡ true → steps_to_go (⟦<Book as Shown>⟧.shown book.new).core.tray.net < steps_to_go (⟦<Book as Shown>⟧.shown book.old).core.tray.net) }
-    ensures added { IfOk result (λ moved. Adds (IsOne who Event.Pump (pump_reply moved)) (⟦<Book as Shown>⟧.shown book.old).core.turns (⟦<Book as Shown>⟧.shown book.new).core.turns) }
+    ensures added { IfOk result (λ moved. Adds (IsOne who Event.Pump (pump_reply moved)) (⟦<Book as Shown>⟧.shown book.old) (⟦<Book as Shown>⟧.shown book.new)) }
 {
     let reply = ask(book, alloc, who, Event::Pump)?;
     Ok(is_moved(&reply))
@@ -95,7 +95,7 @@ fn pump_all(book: &mut Book, alloc: Global, who: Who) -> Result<(), OutOfMemory>
     requires between { IsBetween (⟦<Book as Shown>⟧.shown book.old) }
     ensures between { IsBetween (⟦<Book as Shown>⟧.shown book.new) }
     ensures runs { OnOk result (Runs (⟦<Book as Shown>⟧.shown book.old) (⟦<Book as Shown>⟧.shown book.new) (⟦<Book as Shown>⟧.shown book.old).core.tray.net.phase) }
-    ensures added { OnOk result (Adds (ArePumps who) (⟦<Book as Shown>⟧.shown book.old).core.turns (⟦<Book as Shown>⟧.shown book.new).core.turns) }
+    ensures added { OnOk result (Adds (ArePumps who) (⟦<Book as Shown>⟧.shown book.old) (⟦<Book as Shown>⟧.shown book.new)) }
 {
     while pump_once(book, alloc, who)? {}
     Ok(())
@@ -115,7 +115,7 @@ pub fn run_call(
     requires may { may_ask (⟦<Book as Shown>⟧.shown book.old).core.head event ≡ true }
     ensures between { IsBetween (⟦<Book as Shown>⟧.shown book.new) }
     ensures running { OnOk result (Runs (⟦<Book as Shown>⟧.shown book.old) (⟦<Book as Shown>⟧.shown book.new) Phase.Running) }
-    ensures added { OnOk result (Adds (IsCall lane event pump) (⟦<Book as Shown>⟧.shown book.old).core.turns (⟦<Book as Shown>⟧.shown book.new).core.turns) }
+    ensures added { OnOk result (Adds (IsCall lane event pump) (⟦<Book as Shown>⟧.shown book.old) (⟦<Book as Shown>⟧.shown book.new)) }
 {
     let reply = ask(book, alloc, Who::Call(lane), event)?;
     if !has_tail(pump, &reply) {
@@ -132,7 +132,7 @@ fn drain_once(book: &mut Book, alloc: Global) -> Result<(), OutOfMemory>
     ensures between { IsBetween (⟦<Book as Shown>⟧.shown book.new) }
     ensures pausing { OnOk result (Runs (⟦<Book as Shown>⟧.shown book.old) (⟦<Book as Shown>⟧.shown book.new) Phase.Pausing) }
     ensures fewer { OnOk result (pause_to_go (⟦<Book as Shown>⟧.shown book.new).core.tray.net < pause_to_go (⟦<Book as Shown>⟧.shown book.old).core.tray.net) }
-    ensures added { OnOk result (Adds (EndsTo ending.Draining ending.Pausing) (⟦<Book as Shown>⟧.shown book.old).core.turns (⟦<Book as Shown>⟧.shown book.new).core.turns) }
+    ensures added { OnOk result (Adds (EndsTo ending.Draining ending.Pausing) (⟦<Book as Shown>⟧.shown book.old) (⟦<Book as Shown>⟧.shown book.new)) }
 {
     ask(book, alloc, Who::Own, Event::Drain)?;
     Ok(())
@@ -145,7 +145,7 @@ fn pause_once(book: &mut Book, alloc: Global) -> Result<bool, OutOfMemory>
     ensures paused { IfOk result (λ done. done ≡ true → Runs (⟦<Book as Shown>⟧.shown book.old) (⟦<Book as Shown>⟧.shown book.new) Phase.Paused) }
     ensures pausing { IfOk result (λ done. done ≡ false → Runs (⟦<Book as Shown>⟧.shown book.old) (⟦<Book as Shown>⟧.shown book.new) Phase.Pausing) }
     ensures fewer { IfOk result (λ done. done ≡ false → pause_to_go (⟦<Book as Shown>⟧.shown book.new).core.tray.net < pause_to_go (⟦<Book as Shown>⟧.shown book.old).core.tray.net) }
-    ensures added { IfOk result (λ done. Adds (EndsTo ending.Pausing (pause_leads done)) (⟦<Book as Shown>⟧.shown book.old).core.turns (⟦<Book as Shown>⟧.shown book.new).core.turns) }
+    ensures added { IfOk result (λ done. Adds (EndsTo ending.Pausing (pause_leads done)) (⟦<Book as Shown>⟧.shown book.old) (⟦<Book as Shown>⟧.shown book.new)) }
 {
     let reply = ask(book, alloc, Who::Own, Event::PauseNext)?;
     if is_waiting(&reply) {
@@ -160,7 +160,7 @@ fn pause_all(book: &mut Book, alloc: Global) -> Result<(), OutOfMemory>
     requires pausing { IsAt (⟦<Book as Shown>⟧.shown book.old) Phase.Pausing }
     ensures between { IsBetween (⟦<Book as Shown>⟧.shown book.new) }
     ensures paused { OnOk result (Runs (⟦<Book as Shown>⟧.shown book.old) (⟦<Book as Shown>⟧.shown book.new) Phase.Paused) }
-    ensures added { OnOk result (Adds (EndsTo ending.Pausing ending.PumpingLast) (⟦<Book as Shown>⟧.shown book.old).core.turns (⟦<Book as Shown>⟧.shown book.new).core.turns) }
+    ensures added { OnOk result (Adds (EndsTo ending.Pausing ending.PumpingLast) (⟦<Book as Shown>⟧.shown book.old) (⟦<Book as Shown>⟧.shown book.new)) }
 {
     while !pause_once(book, alloc)? {}
     Ok(())
@@ -171,7 +171,7 @@ pub fn end_stack(book: &mut Book, alloc: Global) -> Result<(), OutOfMemory>
     requires running { IsAt (⟦<Book as Shown>⟧.shown book.old) Phase.Running }
     ensures between { IsBetween (⟦<Book as Shown>⟧.shown book.new) }
     ensures halted { OnOk result (Runs (⟦<Book as Shown>⟧.shown book.old) (⟦<Book as Shown>⟧.shown book.new) Phase.Halted) }
-    ensures added { OnOk result (Adds (EndsTo ending.Pumping ending.Ended) (⟦<Book as Shown>⟧.shown book.old).core.turns (⟦<Book as Shown>⟧.shown book.new).core.turns) }
+    ensures added { OnOk result (Adds (EndsTo ending.Pumping ending.Ended) (⟦<Book as Shown>⟧.shown book.old) (⟦<Book as Shown>⟧.shown book.new)) }
 {
     pump_all(book, alloc, Who::Own)?;
     ask(book, alloc, Who::Own, Event::BeginPause)?;

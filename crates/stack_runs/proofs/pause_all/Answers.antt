@@ -1,6 +1,9 @@
-use Rattle.std.proofs.Common.{rules, true, false}
-use Rattle.stack_runs.proofs.Added.{pauses_to}
+use Rattle.std.proofs.Common.{rules, true, false, refl}
+use Rattle.stack_runs.proofs.Added.{pauses_to, none_added}
 use Rattle.stack_runs.proofs.pause_all.Goals as goal
+
+pub loop-init : goal.loop-init
+loop-init g c = record { pausing = search rules; added = none_added _ _ refl; head = refl }
 
 pub loop-preserved : goal.loop-preserved
 loop-preserved g c = record {

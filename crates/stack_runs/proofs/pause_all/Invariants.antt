@@ -15,7 +15,19 @@ invariant-loop g l = record {
     log_bytes = (goal.MiniportDriver-dyn g (l.book.miniport.vtable, l.book.miniport.value)).log_bytes l.book.miniport.value;
     protocols = map (λ d. (goal.ProtocolDriver-dyn g (d.vtable, d.value)).state d.value) l.book.protocols.items;
   }) phase.Pausing;
-  added : Adds (EndsTo ending.Pausing ending.Pausing) l.initial.book.core.turns l.book.core.turns;
+  added : Adds (EndsTo ending.Pausing ending.Pausing) (record {
+    core = l.initial.book.core;
+    miniport = (goal.MiniportDriver-dyn g (l.initial.book.miniport.vtable, l.initial.book.miniport.value)).state l.initial.book.miniport.value;
+    log_room = (goal.MiniportDriver-dyn g (l.initial.book.miniport.vtable, l.initial.book.miniport.value)).log_room l.initial.book.miniport.value;
+    log_bytes = (goal.MiniportDriver-dyn g (l.initial.book.miniport.vtable, l.initial.book.miniport.value)).log_bytes l.initial.book.miniport.value;
+    protocols = map (λ d. (goal.ProtocolDriver-dyn g (d.vtable, d.value)).state d.value) l.initial.book.protocols.items;
+  }) (record {
+    core = l.book.core;
+    miniport = (goal.MiniportDriver-dyn g (l.book.miniport.vtable, l.book.miniport.value)).state l.book.miniport.value;
+    log_room = (goal.MiniportDriver-dyn g (l.book.miniport.vtable, l.book.miniport.value)).log_room l.book.miniport.value;
+    log_bytes = (goal.MiniportDriver-dyn g (l.book.miniport.vtable, l.book.miniport.value)).log_bytes l.book.miniport.value;
+    protocols = map (λ d. (goal.ProtocolDriver-dyn g (d.vtable, d.value)).state d.value) l.book.protocols.items;
+  });
   head : l.book.core.head ≡ l.initial.book.core.head;
 }
 

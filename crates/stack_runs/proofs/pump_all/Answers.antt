@@ -1,6 +1,9 @@
-use Rattle.std.proofs.Common.{rules}
-use Rattle.stack_runs.proofs.Added.{moves_on}
+use Rattle.std.proofs.Common.{rules, refl}
+use Rattle.stack_runs.proofs.Added.{moves_on, none_added}
 use Rattle.stack_runs.proofs.pump_all.Goals as goal
+
+pub loop-init : goal.loop-init
+loop-init g c = record { between = search rules; head = refl; added = none_added _ _ tt; phase = refl }
 
 pub loop-preserved : goal.loop-preserved
 loop-preserved g c = record {
