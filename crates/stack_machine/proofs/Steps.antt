@@ -57,9 +57,9 @@ turn_same old mid new asked answer same t = record {
   drivers = did_from same.miniport same.protocols t.drivers;
 }
 
-pub turned_same : {old mid new : BookView} {asked : Asked} (r : Result Reply OutOfMemory) → Same old mid → IfOk r (λ answer. AddsTurn mid new asked answer) → IfOk r (λ answer. AddsTurn old new asked answer)
-turned_same {old} {mid} {new} {asked} (Ok answer) same t = turn_same old mid new asked answer same t
-turned_same {old} {mid} {new} {asked} (Err e) same t = tt
+pub turned_same : (old mid new : BookView) (asked : Asked) (r : Result Reply OutOfMemory) → Same old mid → IfOk r (λ answer. AddsTurn mid new asked answer) → IfOk r (λ answer. AddsTurn old new asked answer)
+turned_same old mid new asked (Ok answer) same t = turn_same old mid new asked answer same t
+turned_same old mid new asked (Err e) same t = tt
 
 -- a pump that finds nothing on its way is Idle
 pub idle_answered : (b : BookView) (asked : Asked) → IsReady b → Follows b.core.head b.core.turns b.core.tray.net b.core.tray.rows → asked.event ≡ event.Pump

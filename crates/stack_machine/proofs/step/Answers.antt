@@ -8,4 +8,4 @@ pub work-requires-clause-may : goal.work-requires-clause-may
 work-requires-clause-may g c = may_same c.make_room.ensures.same c.args.asked.event c.requires.may
 
 pub returns-clause-turn : goal.returns-clause-turn
-returns-clause-turn g c = turned_same c.work.result c.make_room.ensures.same c.work.ensures.turn
+returns-clause-turn g c = turned_same _ _ _ c.args.asked c.work.result c.make_room.ensures.same c.work.ensures.turn
