@@ -1,7 +1,8 @@
 -- The turns of a run follow the script.
-use Rattle.std.proofs.Common.{ℕ, ◌≡◌, ◌≢◌, ◌==◌, ◌&&◌, Bool, true, false, List, [], ◌∷◌, ◌++◌, Option, Some, None, not, if◌then◌else◌, All, refl, ap, sym, subst, ◌∙◌, inl, inr, ◌⊎◌, arith, eq-eqb}
+use Rattle.std.proofs.Common.{ℕ, ◌≡◌, ◌≢◌, ◌==◌, ◌&&◌, Bool, true, false, List, [], ◌∷◌, ◌++◌, Option, Some, None, not, if◌then◌else◌, All, refl, ap, ap₂, sym, subst, ◌∙◌, inl, inr, ◌⊎◌, arith, eq-eqb, ◌≤◌, ◌-◌, length, take, drop, get_or}
 use Rattle.std.specs.List.{list_all}
-use Rattle.std.proofs.lemmas.List.{append-nil, append_assoc}
+use Rattle.std.proofs.lemmas.List.{append_assoc, take_rest}
+
 use Rattle.std.proofs.lemmas.List.Elements.{All-append, All-cons, All-nil}
 use Rattle.std.proofs.lemmas.Bool.Decides.{nat_tests}
 use Rattle.ndis_base.specs.declared.LaneNo.{LaneNo}
@@ -35,6 +36,8 @@ use Rattle.promise_rules.specs.Tails.{next_stack, next_event, tail_after, tail_o
 use Rattle.promise_rules.specs.Own.{opening_event, opening_after, filters_after, ending_of, ending_event, ending_after}
 use Rattle.promise_rules.specs.Followed.{is_of_lane, next_turn, after_next, link_of, Follows, done, other, called, helped, IsFollowed, IsOpenedAndEnded}
 use Rattle.promise_rules.specs.Followed as promised
+use Rattle.stack_book.specs.Views.{BookView}
+use Rattle.stack_runs.proofs.Added.{did_turns, none_added}
 use Rattle.stack_runs.specs.Adds.{Adds, Told, AreMoves, ArePumps, IsTail, IsCall, OpensTo, EndsTo, is_refused}
 use Rattle.script_runs.specs.Calls.{Makes, MakesAll, Ran}
 use Rattle.script_runs.specs.Built as form
@@ -236,7 +239,9 @@ follows_all stacks head lane [] front xs rest built m n r =
     let none : next_turn lane.0 (front ++ (xs ++ rest)) ≡ None =
     passed lane.0 front (xs ++ rest) n ∙ ap (λ (ts : List Turn). next_turn lane.0 (ts ++ rest)) m ∙ none_next lane.0 rest r in
     done ((front ++ (xs ++ rest)) ∷ []) (All-cons (λ ts. next_turn lane.0 ts ≡ None) (front ++ (xs ++ rest)) [] none (All-nil (λ ts. next_turn lane.0 ts ≡ None)))
-follows_all stacks head lane (c ∷ cs) front xs rest built m n r = by_lane (c.lane.0 == lane.0) refl
+follows_all stacks head lane (c ∷ cs) front xs rest built m n r =
+    by_lane (c.lane.0 == lane.0) refl
+    (λ (before : List Turn). λ (none : NoneOf lane.0 before). follows_all stacks head lane cs before m.1 rest (both_true (form.is_built_call head c) (list_all (form.is_built_call head) cs) built).1 m.4 none r)
   where
     of : (form.is_built_call head c ≡ true) × (list_all (form.is_built_call head) cs ≡ true)
     of = both_true (form.is_built_call head c) (list_all (form.is_built_call head) cs) built
@@ -250,25 +255,27 @@ follows_all stacks head lane (c ∷ cs) front xs rest built m n r = by_lane (c.l
     apart : xs ++ rest ≡ m.0 ++ (m.1 ++ rest)
     apart = ap (λ (ts : List Turn). ts ++ rest) m.2 ∙ append_assoc m.0 m.1 rest
 
-    by_lane : (b : Bool) → (c.lane.0 == lane.0) ≡ b → Follows stacks lane (c ∷ cs) tails.Ended ((front ++ (xs ++ rest)) ∷ [])
-    by_lane true e =
+    by_lane : (b : Bool) → (c.lane.0 == lane.0) ≡ b → ((before : List Turn) → NoneOf lane.0 before → Follows stacks lane cs tails.Ended ((before ++ (m.1 ++ rest)) ∷ [])) → Follows stacks lane (c ∷ cs) tails.Ended ((front ++ (xs ++ rest)) ∷ [])
+    by_lane true e later =
         subst (λ (ts : List Turn). Follows stacks lane (c ∷ cs) tails.Ended ((front ++ ts) ∷ [])) (sym apart)
-        (follows_call stacks head lane c cs front m.0 (m.1 ++ rest) (zero_stack c.stack parts.0) parts.1 (same_lane c.lane lane e) n m.3 (follows_all stacks head lane cs [] m.1 rest of.1 m.4 tt r))
-    by_lane false e =
+        (follows_call stacks head lane c cs front m.0 (m.1 ++ rest) (zero_stack c.stack parts.0) parts.1 (same_lane c.lane lane e) n m.3 (later [] tt))
+    by_lane false e later =
         let skipped : (front ++ m.0) ++ (m.1 ++ rest) ≡ front ++ (xs ++ rest) = append_assoc front m.0 (m.1 ++ rest) ∙ ap (λ (ts : List Turn). front ++ ts) (sym apart) in
         other c cs ((front ++ (xs ++ rest)) ∷ []) (other_lane c.lane lane e)
         (subst (λ (ts : List Turn). Follows stacks lane cs tails.Ended (ts ∷ [])) skipped
-        (follows_all stacks head lane cs (front ++ m.0) m.1 rest of.1 m.4 (none_append lane.0 front m.0 n (none_of_lane c.lane lane.0 m.0 e by)) r))
+        (later (front ++ m.0) (none_append lane.0 front m.0 n (none_of_lane c.lane lane.0 m.0 e by))))
 
 -- an opening, the calls and an ending are a run
-pub ran : (head : StackHead) (calls : List Call) (a b c d : List Turn) → Adds (OpensTo Initialising Opened) a b → Adds (MakesAll calls) b c → (seen head c).phase ≡ phase.Running → Adds (EndsTo ending.Pumping ending.Ended) c d → Ran head calls a d
+pub ran : (head : StackHead) (calls : List Call) (a b c d : BookView) → Adds (OpensTo Initialising Opened) a b → Adds (MakesAll calls) b c → (seen head c.core.turns).phase ≡ phase.Running → Adds (EndsTo ending.Pumping ending.Ended) c d → Ran head calls a d
 ran head calls a b c d o m at e =
-    let mid : c ≡ a ++ (o.more ++ m.more) = m.turns ∙ ap (λ (ts : List Turn). ts ++ m.more) o.turns ∙ append_assoc a o.more m.more in
+    let old : List Turn = a.core.turns in
+    let mid : c.core.turns ≡ old ++ (o.more ++ m.more) = m.turns ∙ ap (λ (ts : List Turn). ts ++ m.more) o.turns ∙ append_assoc old o.more m.more in
     record {
       opening = o.more;
       middle = m.more;
       last = e.more;
-      split = e.turns ∙ ap (λ (ts : List Turn). ts ++ e.more) mid ∙ append_assoc a (o.more ++ m.more) e.more ∙ ap (λ (ts : List Turn). a ++ ts) (append_assoc o.more m.more e.more);
+      split = e.turns ∙ ap (λ (ts : List Turn). ts ++ e.more) mid ∙ append_assoc old (o.more ++ m.more) e.more ∙ ap (λ (ts : List Turn). old ++ ts) (append_assoc o.more m.more e.more);
+      drivers = did_turns a b d o.more (m.more ++ e.more) o.drivers (did_turns b c d m.more e.more m.drivers e.drivers);
       opens = o.kind;
       made = m.kind;
       running = ap (λ (ts : List Turn). (seen head ts).phase) (sym mid) ∙ at;
@@ -276,28 +283,41 @@ ran head calls a b c d o m at e =
     }
 
 -- the same, where the stack runs after the calls
-pub ran_at : (head one two : StackHead) (calls : List Call) (a b c d : List Turn) (net : Net) (rows : List Row) → one ≡ head → two ≡ one → core.Follows two c net rows → rows ≡ [] → net.phase ≡ phase.Running
+pub ran_at : (head one two : StackHead) (calls : List Call) (a b c d : BookView) (net : Net) (rows : List Row) → one ≡ head → two ≡ one → core.Follows two c.core.turns net rows → rows ≡ [] → net.phase ≡ phase.Running
     → Adds (OpensTo Initialising Opened) a b → Adds (MakesAll calls) b c → Adds (EndsTo ending.Pumping ending.Ended) c d → Ran head calls a d
 ran_at head one two calls a b c d net rows e f facts idle at o m x =
-    ran head calls a b c d o m (ap (λ (h : StackHead). (seen h c).phase) (sym (f ∙ e)) ∙ journal_at two c net rows phase.Running facts idle at) x
+    ran head calls a b c d o m (ap (λ (h : StackHead). (seen h c.core.turns).phase) (sym (f ∙ e)) ∙ journal_at two c.core.turns net rows phase.Running facts idle at) x
 
 -- a call and the calls after it
-pub made_all : (c : Call) (cs : List Call) (x y z : List Turn) → Adds (Makes c) x y → Adds (MakesAll cs) y z → Adds (MakesAll (c ∷ cs)) x z
+pub made_all : (c : Call) (cs : List Call) (x y z : BookView) → Adds (Makes c) x y → Adds (MakesAll cs) y z → Adds (MakesAll (c ∷ cs)) x z
 made_all c cs x y z p q = record {
   more = p.more ++ q.more;
-  turns = q.turns ∙ ap (λ (ts : List Turn). ts ++ q.more) p.turns ∙ append_assoc x p.more q.more;
+  turns = q.turns ∙ ap (λ (ts : List Turn). ts ++ q.more) p.turns ∙ append_assoc x.core.turns p.more q.more;
+  drivers = did_turns x y z p.more q.more p.drivers q.drivers;
   kind = (p.more, q.more, refl, p.kind, q.kind);
 }
 
-pub made_none : (x : List Turn) → Adds (MakesAll []) x x
-made_none x = record { more = []; turns = sym (append-nil x); kind = refl }
+pub made_none : (x : BookView) → Adds (MakesAll []) x x
+made_none x = none_added (MakesAll []) x refl
 
-pub makes : (c : Call) (e : Event) (x y : List Turn) → event_of c.kind ≡ Some e → Adds (IsCall c.lane e c.pump) x y → Adds (Makes c) x y
-makes c e x y is p = record { more = p.more; turns = p.turns; kind = record { event = e; asked = is; is = p.kind } }
+-- the first call and the rest
+first_and_rest : (s : List Call) (c : Call) → 1 ≤ length s → c ≡ get_or s 0 c → c ∷ take (length s - 1) (drop 1 s) ≡ s
+first_and_rest [] c some is = absurd (omega arith)
+first_and_rest (x ∷ s) c some is = ap₂ (λ y ys. y ∷ ys) is (take_rest (x ∷ s) 1)
 
-pub followed : (stacks : List StackSetup) (head : StackHead) (calls : List Call) (turns : List Turn) → list_all (form.is_built_call head) calls ≡ true → Ran head calls [] turns → (lane : LaneNo) → IsFollowed stacks lane calls (turns ∷ [])
-followed stacks head calls turns built w lane =
-    subst (λ (ts : List Turn). Follows stacks lane calls tails.Ended (ts ∷ [])) (sym w.split)
+pub made_first : (s : List Call) (c : Call) (x y z : BookView) → 1 ≤ length s → c ≡ get_or s 0 c → Adds (Makes c) x y → Adds (MakesAll (take (length s - 1) (drop 1 s))) y z → Adds (MakesAll s) x z
+made_first s c x y z some is p q = subst (λ cs. Adds (MakesAll cs) x z) (first_and_rest s c some is) (made_all c (take (length s - 1) (drop 1 s)) x y z p q)
+
+pub makes : (c : Call) (e : Event) (x y : BookView) → event_of c.kind ≡ Some e → Adds (IsCall c.lane e c.pump) x y → Adds (Makes c) x y
+makes c e x y is p = record { more = p.more; turns = p.turns; drivers = p.drivers; kind = record { event = e; asked = is; is = p.kind } }
+
+-- from no turn on, a run is the journal
+whole_is : (head : StackHead) (calls : List Call) (a b : BookView) → a.core.turns ≡ [] → (w : Ran head calls a b) → b.core.turns ≡ w.opening ++ (w.middle ++ w.last)
+whole_is head calls a b none w = w.split ∙ ap (λ (ts : List Turn). ts ++ (w.opening ++ (w.middle ++ w.last))) none
+
+pub followed : (stacks : List StackSetup) (head : StackHead) (calls : List Call) (a b : BookView) → list_all (form.is_built_call head) calls ≡ true → a.core.turns ≡ [] → Ran head calls a b → (lane : LaneNo) → IsFollowed stacks lane calls (b.core.turns ∷ [])
+followed stacks head calls a b built none w lane =
+    subst (λ (ts : List Turn). Follows stacks lane calls tails.Ended (ts ∷ [])) (sym (whole_is head calls a b none w))
     (follows_all stacks head lane calls w.opening w.middle w.last built w.made (own_opens Initialising Opened lane.0 w.opening w.opens) (own_ends ending.Pumping ending.Ended lane.0 w.last w.ends))
 
 -- an opening that ends opened is one, and an ending that ends
@@ -314,13 +334,13 @@ pub ends_as : (a : Ending) (xs : List Turn) → EndsTo a ending.Ended xs → pro
 ends_as a [] p = p
 ends_as a (x ∷ xs) p = (record { by = p.0; what = p.1.0 }, ends_as (ending_after a x.reply) xs p.1.1)
 
-pub opened_and_ended : (head : StackHead) (calls : List Call) (turns : List Turn) → Ran head calls [] turns → IsOpenedAndEnded head [] turns
-opened_and_ended head calls turns w = record {
+pub opened_and_ended : (head : StackHead) (calls : List Call) (a b : BookView) → a.core.turns ≡ [] → Ran head calls a b → IsOpenedAndEnded head [] b.core.turns
+opened_and_ended head calls a b none w = record {
   opening = w.opening;
   middle = w.middle;
   last = w.last;
-  split = w.split;
+  split = whole_is head calls a b none w;
   opens = opens_as Initialising w.opening w.opens;
   calls = calls_own calls w.middle w.made;
-  ends = subst (λ p. promised.Ends (ending_of p) w.last) (sym w.running) (ends_as ending.Pumping w.last w.ends);
+  ends = subst (λ p. promised.Ends (ending_of p) w.last) (sym (ap (λ (ts : List Turn). (seen head (ts ++ (w.opening ++ w.middle))).phase) (sym none) ∙ w.running)) (ends_as ending.Pumping w.last w.ends);
 }

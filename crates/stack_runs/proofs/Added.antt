@@ -32,7 +32,7 @@ did_turn : (old new : BookView) (rows : List Row) → DriversDid old new rows �
 did_turn old new rows d = subst (DriversDid old new) (sym (append-nil rows)) d
 
 -- and of some turns and then of others
-did_turns : (a b c : BookView) (xs ys : List Turn) → DriversDid a b (rows_of xs) → DriversDid b c (rows_of ys) → DriversDid a c (rows_of (xs ++ ys))
+pub did_turns : (a b c : BookView) (xs ys : List Turn) → DriversDid a b (rows_of xs) → DriversDid b c (rows_of ys) → DriversDid a c (rows_of (xs ++ ys))
 did_turns a b c xs ys p q = subst (DriversDid a c) (sym (flat_map-append (λ (t : Turn). t.rows) xs ys)) (both_did p q)
 
 -- a turn that was added is one turn
@@ -168,7 +168,7 @@ pub pumps_add : (a b : Ending) (x y : BookView) → ending_event a ≡ Some even
 pumps_add a b x y asks stays on p = as_kind (ArePumps who.Own) (EndsTo a b) x y (λ xs. pumps_lead a b xs asks stays on) p
 
 -- the ending
-pub end_added : (x b c d e f : BookView) (r s : Reply) → r ≡ reply.Ok → Adds (ArePumps who.Own) x b→ AddsTurn b c (record { who = who.Own; event = event.BeginPause }) r → Adds (EndsTo ending.Pausing ending.PumpingLast) c d → Adds (ArePumps who.Own) d e→ AddsTurn e f (record { who = who.Own; event = event.Halt }) s → Adds (EndsTo ending.Pumping ending.Ended) x f
+pub end_added : (x b c d e f : BookView) (r s : Reply) → r ≡ reply.Ok → Adds (ArePumps who.Own) x b → AddsTurn b c (record { who = who.Own; event = event.BeginPause }) r → Adds (EndsTo ending.Pausing ending.PumpingLast) c d → Adds (ArePumps who.Own) d e → AddsTurn e f (record { who = who.Own; event = event.Halt }) s → Adds (EndsTo ending.Pumping ending.Ended) x f
 end_added x b c d e f r s ok p t q u h =
     ends_then ending.Pumping ending.BeginningPause ending.Ended x b f (pumps_add ending.Pumping ending.BeginningPause x b refl refl refl p)
     (ends_then ending.BeginningPause ending.Pausing ending.Ended b c f (subst (λ a. Adds (EndsTo ending.BeginningPause a) b c) (ap (ending_after ending.BeginningPause) ok) (ends_by b c ending.BeginningPause event.BeginPause r refl t))

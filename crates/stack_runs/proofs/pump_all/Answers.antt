@@ -1,5 +1,5 @@
 use Rattle.std.proofs.Common.{rules, refl}
-use Rattle.stack_runs.proofs.Added.{moves_on, none_added}
+use Rattle.stack_runs.proofs.Added.{moves_on, none_added, pumps_stop}
 use Rattle.stack_runs.proofs.pump_all.Goals as goal
 
 pub loop-init : goal.loop-init
@@ -12,3 +12,6 @@ loop-preserved g c = record {
   head = search rules;
   phase = search rules;
 }
+
+pub returns-clause-added : goal.returns-clause-added
+returns-clause-added g c = pumps_stop _ _ _ _ _ (search rules) c.loop.invariant.added c.in_ok-pump_once.ensures.added
