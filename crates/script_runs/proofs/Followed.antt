@@ -1,5 +1,5 @@
 -- The turns of a run follow the script.
-use Rattle.std.proofs.Common.{ℕ, ◌≡◌, ◌≢◌, ◌==◌, ◌&&◌, Bool, true, false, List, [], ◌∷◌, ◌++◌, Option, Some, None, not, if◌then◌else◌, All, refl, ap, ap₂, sym, subst, ◌∙◌, inl, inr, ◌⊎◌, arith, eq-eqb, ◌≤◌, ◌-◌, length, take, drop, get_or}
+use Rattle.std.proofs.Common.{ℕ, ◌≡◌, ◌≢◌, ◌==◌, ◌&&◌, Bool, true, false, List, [], ◌∷◌, ◌++◌, Option, Some, None, not, if◌then◌else◌, All, refl, ap, ap₂, sym, subst, ◌∙◌, inl, inr, ◌⊎◌, arith, eq-eqb, ◌≤◌, ◌<◌, ◌-◌, length, take, drop, get_or}
 use Rattle.std.specs.List.{list_all}
 use Rattle.std.proofs.lemmas.List.{append_assoc, take_rest}
 
@@ -297,8 +297,9 @@ made_all c cs x y z p q = record {
   kind = (p.more, q.more, refl, p.kind, q.kind);
 }
 
-pub made_none : (x : BookView) → Adds (MakesAll []) x x
-made_none x = none_added (MakesAll []) x refl
+pub made_none : (s : List Call) (x : BookView) → length s < 1 → Adds (MakesAll s) x x
+made_none [] x none = none_added (MakesAll []) x refl
+made_none (c ∷ s) x none = absurd (omega arith)
 
 -- the first call and the rest
 first_and_rest : (s : List Call) (c : Call) → 1 ≤ length s → c ≡ get_or s 0 c → c ∷ take (length s - 1) (drop 1 s) ≡ s

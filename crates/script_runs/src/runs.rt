@@ -66,7 +66,7 @@ fn run_whole(book: &mut Book, alloc: Global, calls: &[Call]) -> Result<(), OutOf
     requires built { list_all (form.is_built_call (⟦<Book as Shown>⟧.shown book.old).core.head) calls.now ≡ true }
     ensures between { IsBetween (⟦<Book as Shown>⟧.shown book.new) }
     ensures halted { OnOk result (Runs (⟦<Book as Shown>⟧.shown book.old) (⟦<Book as Shown>⟧.shown book.new) phase.Halted) }
-    ensures whole { OnOk result (Ran (⟦<Book as Shown>⟧.shown book.old).core.head calls.now (⟦<Book as Shown>⟧.shown book.old).core.turns (⟦<Book as Shown>⟧.shown book.new).core.turns) }
+    ensures whole { OnOk result (Ran (⟦<Book as Shown>⟧.shown book.old).core.head calls.now (⟦<Book as Shown>⟧.shown book.old) (⟦<Book as Shown>⟧.shown book.new)) }
 {
     open_stack(book, alloc)?;
     run_calls(book, alloc, calls)?;
@@ -80,7 +80,7 @@ fn run_calls(book: &mut Book, alloc: Global, calls: &[Call]) -> Result<(), OutOf
     requires built { list_all (form.is_built_call (⟦<Book as Shown>⟧.shown book.old).core.head) calls.now ≡ true }
     ensures between { IsBetween (⟦<Book as Shown>⟧.shown book.new) }
     ensures running { OnOk result (Runs (⟦<Book as Shown>⟧.shown book.old) (⟦<Book as Shown>⟧.shown book.new) phase.Running) }
-    ensures added { OnOk result (Adds (MakesAll calls.now) (⟦<Book as Shown>⟧.shown book.old).core.turns (⟦<Book as Shown>⟧.shown book.new).core.turns) }
+    ensures added { OnOk result (Adds (MakesAll calls.now) (⟦<Book as Shown>⟧.shown book.old) (⟦<Book as Shown>⟧.shown book.new)) }
 {
     let [call, more @ ..] = calls else {
         return Ok(());
@@ -95,7 +95,7 @@ fn run_one(book: &mut Book, alloc: Global, call: &Call) -> Result<(), OutOfMemor
     requires built { form.is_built_call (⟦<Book as Shown>⟧.shown book.old).core.head call.now ≡ true }
     ensures between { IsBetween (⟦<Book as Shown>⟧.shown book.new) }
     ensures running { OnOk result (Runs (⟦<Book as Shown>⟧.shown book.old) (⟦<Book as Shown>⟧.shown book.new) phase.Running) }
-    ensures added { OnOk result (Adds (Makes call.now) (⟦<Book as Shown>⟧.shown book.old).core.turns (⟦<Book as Shown>⟧.shown book.new).core.turns) }
+    ensures added { OnOk result (Adds (Makes call.now) (⟦<Book as Shown>⟧.shown book.old) (⟦<Book as Shown>⟧.shown book.new)) }
 {
     let Some(event) = event_of_call(alloc, &call.kind)? else {
         unreachable!()
