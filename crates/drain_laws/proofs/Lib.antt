@@ -4,3 +4,4 @@ pub mod Resting
 pub mod Rested
 pub mod Lent
 pub mod Rests
+pub mod Idle
