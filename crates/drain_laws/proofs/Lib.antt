@@ -5,3 +5,4 @@ pub mod Rested
 pub mod Lent
 pub mod Rests
 pub mod Idle
+pub mod Pausing
