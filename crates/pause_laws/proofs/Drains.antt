@@ -26,7 +26,7 @@ use Rattle.rule_basics.specs.Live.{is_live, Each, others, retouched, with_last, 
 use Rattle.rule_basics.proofs.Lists.{lists-changed, lists-passed}
 use Rattle.rule_basics.proofs.Lives.{find_is, is_live-others}
 use Rattle.state_laws.proofs.Rows.{by_test, after_rows-append}
-use Rattle.state_laws.proofs.Quiet.{All-append, All-map, first_of_all}
+use Rattle.state_laws.proofs.Calm.{All-append, All-map, first_of_all}
 use Rattle.pause_laws.specs.Clear.{IsClear, AreClear}
 use Rattle.pause_laws.proofs.Lists.{same_found, hand_take, clear_touched, clear_found, found-touched, none-touched, found-last, gone}
 use Rattle.pause_laws.proofs.Hands.{Clear, pass_none}

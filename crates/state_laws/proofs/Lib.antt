@@ -1,4 +1,5 @@
 pub mod Rows
+pub mod Calm
 pub mod Quiet
 pub mod Takes
 pub mod Floors

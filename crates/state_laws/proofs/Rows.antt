@@ -25,17 +25,38 @@ abbrev pub AreQuiet : List Row → Type 0
 AreQuiet [] = Unit {0}
 AreQuiet (r ∷ rows) = (is_quiet r ≡ true) × AreQuiet rows
 
-pub quiet-append : (xs ys : List Row) → AreQuiet xs → AreQuiet ys → AreQuiet (xs ++ ys)
-quiet-append [] ys h k = k
-quiet-append (x ∷ xs) ys h k = (h.0, quiet-append xs ys h.1 k)
+-- the row tells no state, no configuration and nothing of a request
+abbrev pub is_calm : Row → Bool
+is_calm (row.OidIssue request parent binding kind code value) = false
+is_calm (row.OidGive request m) = false
+is_calm (row.OidDone request status value) = false
+is_calm r = is_quiet r
 
-pub quiet-map : {A : Type 0} (f : A → Row) (xs : List A) → ((x : A) → is_quiet (f x) ≡ true) → AreQuiet (map f xs)
-quiet-map f [] h = tt
-quiet-map f (x ∷ xs) h = (h x, quiet-map f xs h)
+abbrev pub AreCalm : List Row → Type 0
+AreCalm [] = Unit {0}
+AreCalm (r ∷ rows) = (is_calm r ≡ true) × AreCalm rows
 
-pub quiet-flat_map : {A : Type 0} (f : A → List Row) (xs : List A) → ((x : A) → AreQuiet (f x)) → AreQuiet (flat_map f xs)
-quiet-flat_map f [] h = tt
-quiet-flat_map f (x ∷ xs) h = quiet-append (f x) (flat_map f xs) (h x) (quiet-flat_map f xs h)
+calm_row : (r : Row) → is_calm r ≡ true → is_quiet r ≡ true
+calm_row (row.OidIssue request parent binding kind code value) h = refl
+calm_row (row.OidGive request m) h = refl
+calm_row (row.OidDone request status value) h = refl
+calm_row r h = h
+
+pub calm_quiet : (rows : List Row) → AreCalm rows → AreQuiet rows
+calm_quiet [] h = tt
+calm_quiet (r ∷ rows) h = (calm_row r h.0, calm_quiet rows h.1)
+
+pub calm-append : (xs ys : List Row) → AreCalm xs → AreCalm ys → AreCalm (xs ++ ys)
+calm-append [] ys h k = k
+calm-append (x ∷ xs) ys h k = (h.0, calm-append xs ys h.1 k)
+
+pub calm-map : {A : Type 0} (f : A → Row) (xs : List A) → ((x : A) → is_calm (f x) ≡ true) → AreCalm (map f xs)
+calm-map f [] h = tt
+calm-map f (x ∷ xs) h = (h x, calm-map f xs h)
+
+pub calm-flat_map : {A : Type 0} (f : A → List Row) (xs : List A) → ((x : A) → AreCalm (f x)) → AreCalm (flat_map f xs)
+calm-flat_map f [] h = tt
+calm-flat_map f (x ∷ xs) h = calm-append (f x) (flat_map f xs) (h x) (calm-flat_map f xs h)
 
 -- the same head, phase, modules and next filter
 pub record IsSame (net next : Net) : Type 0 where

@@ -1,5 +1,5 @@
 -- A request that a pump gives to a module leaves less to do.
-use Rattle.std.proofs.Common.{◌≡◌, ℕ, ◌+◌, ◌-◌, ◌*◌, ◌≤◌, ◌<◌, ◌==◌, ◌&&◌, ◌||◌, not, Bool, true, false, cond, List, [], ◌∷◌, ◌++◌, Option, Some, None, refl, arith, ap, sym, subst, ◌∙◌, ◌⊎◌, inl, inr, filter, find, map, reverse, drop, sum_by}
+use Rattle.std.proofs.Common.{◌≡◌, ℕ, ◌+◌, ◌-◌, ◌*◌, ◌≤◌, ◌==◌, not, Bool, true, false, cond, List, [], ◌∷◌, ◌++◌, Some, refl, arith, ap, sym, subst, ◌∙◌, ◌⊎◌, inl, inr, filter, find, map, sum_by}
 use Rattle.std.proofs.lemmas.Bool.Decides.{nat_tests}
 use Rattle.std.proofs.lemmas.List.Sums.{sum_by-cons, sum_by_push, sum_by-le-sum_by}
 use Rattle.ndis_base.specs.declared.OidNo.{OidNo}
@@ -17,9 +17,9 @@ use Rattle.stack_rules.specs.declared.RequestAt.{RequestAt}
 use Rattle.stack_rules.specs.declared.RequestAt.TheVariants as at
 use Rattle.stack_rules.specs.declared.Thing.{Thing}
 use Rattle.stack_rules.specs.declared.Thing.TheVariants as thing
-use Rattle.stack_rules.specs.Net.{Net, Modules, after, after_rows, request_of, answers, given_to, first_oid, below, has_oid, place_of_clone, place_of_request}
-use Rattle.stack_rules.specs.Places.{above, position, has_clone}
-use Rattle.stack_rules.specs.Requests.{Giving, waits_at, is_at_entry, is_busy, has_waiting, first_waiting, filter_ids, oid_modules, giving_to, lowest_giving, entry_giving, or_else, next_giving, given_rows_by, giving_rows}
+use Rattle.stack_rules.specs.Net.{Net, after, after_rows, request_of, answers, given_to, first_oid, below, place_of_clone, place_of_request}
+use Rattle.stack_rules.specs.Places.{position, has_clone}
+use Rattle.stack_rules.specs.Requests.{Giving, given_rows_by, giving_rows}
 use Rattle.stack_rules.specs.OidTable.{report_of}
 use Rattle.stack_rules.specs.Outcome.{oid_no}
 use Rattle.stack_rules.specs.Rewires.{is_in}
@@ -29,11 +29,10 @@ use Rattle.rule_basics.specs.Numbers.{IsNumbered}
 use Rattle.work_laws.proofs.Sums.{sum_filter}
 use Rattle.work_laws.proofs.Weights.{Stay, weight, asked_work, load, work_least, work_after}
 use Rattle.work_laws.proofs.Clones.{clones_rows}
-use Rattle.work_laws.proofs.Ways.{position_most, in_above, drop_above, reverse_in}
+use Rattle.work_laws.proofs.Ways.{position_most}
 use Rattle.work_laws.proofs.Adds.{new_holder}
-use Rattle.work_laws.proofs.Moves.{same_is}
-use Rattle.std.proofs.Common.{add-one}
 use Rattle.work_laws.proofs.Filters.{Lowers}
+use Rattle.request_laws.proofs.Orders.{TakesRequests, clone_below}
 use Rattle.place_laws.specs.Kept.{place_position, IsBelow, IsAsked, EachAnswer}
 use Rattle.work_laws.proofs.Items.{held_at, done_load}
 
@@ -186,41 +185,6 @@ to_miniport net r status value n h =
     enough a (inl e) = rw e (omega arith)
     enough a (inr e) = rw e (omega arith)
 
--- the filters below one, and the next of them that takes requests
-below_drop : (f : ℕ) (order : List ℕ) → below f order ≡ drop (above f order + 1) order
-below_drop f [] = refl
-below_drop f (g ∷ order) =
-    elim (g == f) as (λ b. cond b order (below f order) ≡ drop (cond b 0 (above f order + 1) + 1) (g ∷ order)) [
-      | true ↦ refl
-      | false ↦ below_drop f order ∙ sym (further (above f order + 1) order)
-    ]
-  where
-    further : (n : ℕ) (fs : List ℕ) → drop (n + 1) (g ∷ fs) ≡ drop n fs
-    further n fs = rw add-one refl
-
-oid_from : (ms : Modules) (P : ModuleId → Type 0) (fs : List ℕ) → ((f : ℕ) → is_in f fs ≡ true → P (Filter f)) → P Miniport → P (first_oid ms fs)
-oid_from ms P [] f o = o
-oid_from ms P (g ∷ fs) f o =
-    let rest : P (first_oid ms fs) = oid_from ms P fs (λ h i. f h (more (g == h) (is_in h fs) i)) o in
-    elim (has_oid ms g) as (λ b. P (cond b (Filter g) (first_oid ms fs))) [ true ↦ f g (first (g == g) (itself g)) | false ↦ rest ]
-  where
-    more : (a b : Bool) → b ≡ true → (a || b) ≡ true
-    more true b h = refl
-    more false b h = h
-
-    itself : (n : ℕ) → (n == n) ≡ true
-    itself n = grind (arith, nat_tests)
-
-    first : (a : Bool) → a ≡ true → (a || is_in g fs) ≡ true
-    first true h = refl
-    first false h = cc
-
-pub first_oid_far : (ms : Modules) (f : ℕ) → IsDistinct ms.order → is_in f ms.order ≡ true → position ms.order (Filter f) < position ms.order (first_oid ms (below f ms.order))
-first_oid_far ms f d there =
-    oid_from ms (λ m. position ms.order (Filter f) < position ms.order m) (below f ms.order)
-    (λ g i. let far = drop_above g (above f ms.order + 1) ms.order d (sym (ap (is_in g) (below_drop f ms.order)) ∙ i) in omega (arith, far))
-    (let low = in_above f ms.order there in omega (arith, low))
-
 -- to a filter, which forwards it by a clone
 to_filter : (net : Net) (r : Request) (f : ℕ) (kind : OidKind) (code : ℕ) (value : List ℕ) (binding : ℕ) → IsNumbered net → IsDistinct net.modules.order → is_in f net.modules.order ≡ true → MayGive net r (Filter f) →
     Lowers net (row.OidGive r.request (Filter f) ∷ row.OidIssue (oid_no net.next.request) (Some r.request) binding kind code value ∷ [])
@@ -238,7 +202,7 @@ to_filter net r f kind code value binding n d there h =
     let things : sum_by (weight last cloned) next.things ≤ sum_by (weight next cloned) next.things = sum_by-le-sum_by (weight last cloned) (weight next cloned) next.things (forwarded next cloned new none) in
     let asked : asked_work last ≡ asked_work next + request_work net new.at = sum_by_push (λ (q : Request). request_work net q.at) next.requests new in
     let left : request_work net new.at ≡ 2 * bottom net - position net.modules.order down = ap (request_work net) place in
-    let far = first_oid_far net.modules f d there in
+    let far = clone_below net.modules f d there in
     let low = position_most net.modules.order down in
     let least = waits_least net (Filter f) r.at (omega arith) h.at in
     let most = work_after last cloned stay in
@@ -250,12 +214,6 @@ to_filter net r f kind code value binding n d there h =
     forwarded next cloned new e (thing.Status s) = omega arith
     forwarded next cloned new e (thing.Answer a) = new_holder next a.parent.0 next.requests new e
 
--- a module that takes requests
-abbrev pub TakesRequests : Modules → ModuleId → Type 0
-TakesRequests ms Miniport = Unit {0}
-TakesRequests ms (Filter f) = is_in f ms.order ≡ true
-TakesRequests ms (Binding b) = ⊥
-
 pub giving_lowers : (net : Net) (g : Giving) → IsNumbered net → IsDistinct net.modules.order → TakesRequests net.modules g.module_id → MayGive net g.request g.module_id → Lowers net (giving_rows net g)
 giving_lowers net g n d takes h = by g.module_id takes h
   where
@@ -263,87 +221,3 @@ giving_lowers net g n d takes h = by g.module_id takes h
     by Miniport takes h = to_miniport net g.request (report_of net g.request).status (report_of net g.request).value n h
     by (Filter f) takes h = to_filter net g.request f g.request.kind g.request.code g.request.value g.request.binding n d takes h
     by (Binding b) takes h = absurd takes
-
--- which request is given, and to which module
-pub record GivesNext (net : Net) (g : Giving) : Type 0 where
-  pub test : Request → Bool
-  pub found : find test net.requests ≡ Some g.request
-  pub at : (g.request.at ≡ at.Entry) ⊎ (g.request.at ≡ at.Waiting g.module_id)
-  pub takes : TakesRequests net.modules g.module_id
-
-find_true : (p : Request → Bool) (rs : List Request) (r : Request) → find p rs ≡ Some r → p r ≡ true
-find_true p [] r f = cc
-find_true p (q ∷ rs) r f =
-    let cases : (b : Bool) → p q ≡ b → cond b (Some q) (find p rs) ≡ Some r → p r ≡ true = elim [
-      | true ↦ λ t g. subst (λ (k : Request). p k ≡ true) (same q r g) t
-      | false ↦ λ t g. find_true p rs r g
-    ] in
-    cases (p q) refl f
-  where
-    same : (x y : Request) → Some x ≡ Some y → x ≡ y
-    same x y g = cc
-
-waiting_is : (m : ModuleId) (a : RequestAt) → waits_at m a ≡ true → a ≡ at.Waiting m
-waiting_is m at.Entry e = cc
-waiting_is m (at.Waiting k) e = ap (λ i. at.Waiting i) (same_is k m e)
-waiting_is m (at.Given k) e = cc
-
-entry_is : (a : RequestAt) → is_at_entry a ≡ true → a ≡ at.Entry
-entry_is at.Entry e = refl
-entry_is (at.Waiting m) e = cc
-entry_is (at.Given m) e = cc
-
-given_next : (net : Net) (m : ModuleId) (p : Request → Bool) (o : Option Request) (g : Giving) → find p net.requests ≡ o → ((r : Request) → p r ≡ true → (r.at ≡ at.Entry) ⊎ (r.at ≡ at.Waiting m)) → TakesRequests net.modules m → giving_to m o ≡ Some g → GivesNext net g
-given_next net m p None g f at takes e = cc
-given_next net m p (Some r) g f at takes e =
-    subst (GivesNext net) (same (record { request = r; module_id = m }) g e) record { test = p; found = f; at = at r (find_true p net.requests r f); takes = takes }
-  where
-    same : (x y : Giving) → Some x ≡ Some y → x ≡ y
-    same x y g = cc
-
-abbrev AllTake : Modules → List ModuleId → Type 0
-AllTake ms [] = Unit {0}
-AllTake ms (m ∷ rest) = TakesRequests ms m × AllTake ms rest
-
-lowest_next : (net : Net) (ms : List ModuleId) (g : Giving) → AllTake net.modules ms → lowest_giving net.requests ms ≡ Some g → GivesNext net g
-lowest_next net [] g a e = cc
-lowest_next net (m ∷ ms) g a e =
-    let cases : (b : Bool) → cond b (giving_to m (first_waiting net.requests m)) (lowest_giving net.requests ms) ≡ Some g → GivesNext net g = elim [
-      | true ↦ λ f. given_next net m (λ r. waits_at m r.at) (first_waiting net.requests m) g refl (λ r t. inr (waiting_is m r.at t)) a.0 f
-      | false ↦ λ f. lowest_next net ms g a.1 f
-    ] in
-    cases (has_waiting net.requests m && not (is_busy net.requests m)) e
-
-entry_next : (net : Net) (g : Giving) → entry_giving net ≡ Some g → GivesNext net g
-entry_next net g e =
-    let m : ModuleId = first_oid net.modules net.modules.order in
-    let takes : TakesRequests net.modules m = oid_from net.modules (TakesRequests net.modules) net.modules.order (λ f i. i) tt in
-    let cases : (b : Bool) → cond b None (giving_to m (find (λ r. is_at_entry r.at) net.requests)) ≡ Some g → GivesNext net g = elim [
-      | true ↦ λ f. cc
-      | false ↦ λ f. given_next net m (λ r. is_at_entry r.at) (find (λ r. is_at_entry r.at) net.requests) g refl (λ r t. inl (entry_is r.at t)) takes f
-    ] in
-    cases _ e
-
-all_in : (ms : Modules) (fs : List ℕ) → ((f : ℕ) → is_in f fs ≡ true → is_in f ms.order ≡ true) → AllTake ms (filter_ids (filter (has_oid ms) fs))
-all_in ms [] h = tt
-all_in ms (f ∷ fs) h =
-    let rest : AllTake ms (filter_ids (filter (has_oid ms) fs)) = all_in ms fs (λ g i. h g (more (f == g) (is_in g fs) i)) in
-    elim (has_oid ms f) as (λ b. AllTake ms (filter_ids (cond b (f ∷ filter (has_oid ms) fs) (filter (has_oid ms) fs)))) [ true ↦ (h f (first (f == f) (itself f)), rest) | false ↦ rest ]
-  where
-    more : (a b : Bool) → b ≡ true → (a || b) ≡ true
-    more true b h = refl
-    more false b h = h
-
-    itself : (n : ℕ) → (n == n) ≡ true
-    itself n = grind (arith, nat_tests)
-
-    first : (a : Bool) → a ≡ true → (a || is_in f fs) ≡ true
-    first true h = refl
-    first false h = cc
-
-pub gives_next : (net : Net) (g : Giving) → next_giving net ≡ Some g → GivesNext net g
-gives_next net g e = cases (lowest_giving net.requests (oid_modules net.modules)) refl e
-  where
-    cases : (o : Option Giving) → lowest_giving net.requests (oid_modules net.modules) ≡ o → or_else o (entry_giving net) ≡ Some g → GivesNext net g
-    cases None f e = entry_next net g e
-    cases (Some k) f e = lowest_next net (oid_modules net.modules) g (tt, all_in net.modules (reverse net.modules.order) (λ h i. reverse_in h net.modules.order i)) (f ∙ e)

@@ -31,7 +31,8 @@ use Rattle.work_laws.proofs.Lowers.{IsFree}
 use Rattle.work_laws.proofs.Filters.{Lowers}
 use Rattle.work_laws.proofs.Moves.{moved_lowers}
 use Rattle.work_laws.proofs.Items.{status_lowers, answer_lowers}
-use Rattle.work_laws.proofs.Givings.{MayGive, GivesNext, gives_next, giving_lowers}
+use Rattle.request_laws.proofs.Givings.{GivesNext, gives_next}
+use Rattle.work_laws.proofs.Givings.{MayGive, giving_lowers}
 
 -- what is found is one of those
 pub find_passes : {X : Type 0} (p : X → Bool) (xs : List X) (x : X) → find p xs ≡ Some x → p x ≡ true
