@@ -4,3 +4,5 @@ pub mod Resting
 pub mod Rested
 pub mod Lent
 pub mod Rests
+pub mod Idle
+pub mod Pausing
