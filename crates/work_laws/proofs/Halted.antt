@@ -56,6 +56,7 @@ pub record HasNothing (net : Net) : Type 0 where
   pub things : net.things ≡ []
   pub requests : net.requests ≡ []
 
+-- the state with nothing in it
 abbrev emptied : Net → Net
 emptied net = record net { phase = phase.Halted; modules = record net.modules { miniport = state.Halted }; things = []; requests = [] }
 
@@ -67,11 +68,12 @@ emptied_is net h =
     ∙ ap (λ ts. of_parts net.phase net.modules.miniport ts []) (sym h.things)
     ∙ ap (λ rs. of_parts net.phase net.modules.miniport net.things rs) (sym h.requests)
 
--- a pump finds nothing
+-- without requests none is given
 no_giving : (ms : List ModuleId) → lowest_giving [] ms ≡ None
 no_giving [] = refl
 no_giving (m ∷ ms) = no_giving ms
 
+-- a pump finds nothing
 pump_idle : (net : Net) (keeps : Bool) → pump_outcome (emptied net) keeps ≡ answered reply.Idle
 pump_idle net keeps = ap (λ o. request_pump (emptied net) (or_else o None)) (no_giving (oid_modules (emptied net).modules))
 
@@ -87,6 +89,7 @@ no_drains net =
 drain_idle : (net : Net) (keeps : Bool) → drain_outcome (emptied net) keeps ≡ answered reply.Idle
 drain_idle net keeps = by_test (λ o. o ≡ answered reply.Idle) (pump_moves (emptied net)) (pump_outcome (emptied net) keeps) (drained (drain_rows (emptied net))) (λ _. pump_idle net keeps) (λ _. ap drained (no_drains net))
 
+-- a cancel finds no list
 no_cancels : (net : Net) (id : ℕ) (ms : List ModuleId) → flat_map (cancel_rows_at (emptied net) id) ms ≡ []
 no_cancels net id [] = refl
 no_cancels net id (m ∷ ms) = no_cancels net id ms
@@ -97,9 +100,11 @@ is_silent (event.Ask binding kind code value) = false
 is_silent (event.CrossTakeUp binding vlan) = false
 is_silent e = is_plain e
 
+-- the event writes no row
 abbrev WritesNone : Outcome → Type 0
 WritesNone o = o.rows ≡ []
 
+-- such events write nothing, one by one
 emptied_silent : (net : Net) (e : Event) (c : Choice) → is_silent e ≡ true → WritesNone (outcome (emptied net) e c)
 emptied_silent net (event.Send binding cancel frames) c q = refl
 emptied_silent net (event.Indicate frames) c q = refl
@@ -119,6 +124,7 @@ emptied_silent net e c q = cc
 silent_writes : (net : Net) (e : Event) (c : Choice) → HasNothing net → is_silent e ≡ true → WritesNone (outcome net e c)
 silent_writes net e c h q = subst (λ n. WritesNone (outcome n e c)) (emptied_is net h) (emptied_silent net e c q)
 
+-- nor do they tell anything beside their rows
 silent_tells : (net : Net) (e : Event) (r : Reply) → is_silent e ≡ true → told net e r ≡ net
 silent_tells net (event.Insert kind position setup) r q = cc
 silent_tells net (event.Replace old kind setup) r q = cc
@@ -129,11 +135,12 @@ silent_tells net e r q = refl
 silent_after : (net : Net) (e : Event) (r : Reply) (rows : List Row) → is_silent e ≡ true → rows ≡ [] → after_rows (told net e r) rows ≡ net
 silent_after net e r rows q w = ap (after_rows (told net e r)) w ∙ silent_tells net e r q
 
--- an event that changes no state of a module
+-- a message that is taken up
 take_up_things : (net : Net) (binding vlan : ℕ) (o : Option Message) → (state_after net (event.CrossTakeUp binding vlan) (take_up_of net o)).things ≡ net.things
 take_up_things net binding vlan None = refl
 take_up_things net binding vlan (Some m) = refl
 
+-- and so nothing comes to be kept or on its way
 plain_things : (net : Net) (e : Event) (c : Choice) → is_plain e ≡ true → HasNothing net → (state_after net e (outcome net e c)).things ≡ []
 plain_things net (event.Ask binding kind code value) c p h =
     by_test (λ o. (state_after net (event.Ask binding kind code value) o).things ≡ []) (is_unbound (state_of net (Binding binding))) _ _ (λ _. h.things) (λ _. h.things)
@@ -144,9 +151,11 @@ plain_things net e c p h = ap (λ (n : Net). n.things) (silent_after net e (outc
 abbrev ComesFrom : Net → Event → Outcome → Type 0
 ComesFrom net e o = (state_after net e o).phase ≡ phase.Halted → (net.phase ≡ phase.Halted) ⊎ ((net.phase ≡ phase.Paused) × (halt_items net ≡ 0))
 
+-- rows without a halt
 still_from : (net : Net) (e : Event) (r : Reply) (rows : List Row) → ((r : Reply) → told net e r ≡ net) → AreStill rows → ComesFrom net e (record { reply = r; rows = rows })
 still_from net e r rows t s h = inl ((still_rows net rows s).phase (sym (ap (λ (n : Net). (after_rows n rows).phase) (t r)) ∙ h))
 
+-- one event after the other
 halt_from : (net : Net) (e : Event) (c : Choice) → is_plain e ≡ false → ComesFrom net e (outcome net e c)
 halt_from net event.Initialize c p = by_test (ComesFrom net event.Initialize) (phase_is_halted net.phase) _ _ (λ t h. inl (when_halted net.phase t)) (λ _ h. inl h)
 halt_from net (event.Insert kind position setup) c p =
@@ -201,6 +210,7 @@ no_things (thing.List x ∷ ts) l s a = cc
 no_things (thing.Status x ∷ ts) l s a = let whole = count_by-cons is_status_thing (thing.Status x) ts in absurd (omega (arith, whole, s))
 no_things (thing.Answer x ∷ ts) l s a = cc
 
+-- without requests there are no answers
 no_answers : (order : List ℕ) (found : ℕ → Option Request) (given : List Answered) → ((n : ℕ) → found n ≡ None) → Each (λ a. HasHolder order found a.parent.0) given → given ≡ []
 no_answers order found [] n h = refl
 no_answers order found (a ∷ others) n h = absurd (none_some h.0.1.request (sym (n a.parent.0) ∙ h.0.1.here))
@@ -211,15 +221,18 @@ record IsStanding (net : Net) : Type 0 where
   asked : IsKept net
   empty : net.phase ≡ phase.Halted → net.things ≡ []
 
+-- what is kept says that a Halted stack has nothing
 nothing_of : (net : Net) → IsStanding net → net.phase ≡ phase.Halted → HasNothing net
 nothing_of net s h = record { halted = h; miniport = (at_phase net phase.Halted s.held.shape h).0.miniport; things = s.empty h; requests = s.asked.halted h }
 
+-- a Paused stack that may be halted has no things
 paused_things : (net : Net) → IsStanding net → net.phase ≡ phase.Paused → halt_items net ≡ 0 → net.things ≡ []
 paused_things net s h z =
     let none : net.requests ≡ [] = no_requests net.requests (omega (arith, z)) in
     no_things net.things (none_live net.modules s.held.shape.front (lists net.things) (at_phase net phase.Paused s.held.shape h).1.1 s.held.clear.each) (omega (arith, z))
     (no_answers net.modules.order (found_in net) (answers.answered net.things) (λ n. ap (request_of n) none) s.asked.asked.held)
 
+-- each event keeps a Halted stack empty
 event_things : (net : Net) (e : Event) (c : Choice) → IsStanding net → (state_after net e (outcome net e c)).phase ≡ phase.Halted → (state_after net e (outcome net e c)).things ≡ []
 event_things net e c s h = cases (is_plain e) refl
   where

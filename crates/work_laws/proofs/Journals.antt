@@ -38,6 +38,7 @@ no_drain : (net : Net) (e : Event) (c : Choice) → HasNothing net → e ≡ eve
 no_drain net event.Drain c h e m = let idle : (outcome net event.Drain c).reply ≡ reply.Idle = ap (λ (o : Outcome). o.reply) (drain_rests net c.keeps h) in cc
 no_drain net _ c h e m = cc
 
+-- pumps and drains lower the work
 pub sound_pump : EachPumpLowers
 sound_pump head turns turn s bound n e m = by (placed_or_nothing head turns s bound)
   where
@@ -63,6 +64,7 @@ sound_still_drain head turns turn s bound still n e m = by (placed_or_nothing he
 abbrev AreSilent : (Event → Bool) → Type 0
 AreSilent test = (e : Event) → test e ≡ true → is_silent e ≡ true
 
+-- events that are silent then, and add little where everything stands in its place
 sound_adds : (test : Event → Bool) (room : Net → ℕ) → AreSilent test → EachAddsInPlace test room → EachBoundAdds test room
 sound_adds test room silent adds head turns turn s bound n q = by (placed_or_nothing head turns s bound)
   where
@@ -70,6 +72,7 @@ sound_adds test room silent adds head turns turn s bound n q = by (placed_or_not
     by (inl h) = let same : work (after_turn (seen head turns) turn) ≡ work (seen head turns) = ap work (silent_turn (seen head turns) turn h n (silent turn.event q)) in omega (arith, same)
     by (inr h) = adds (seen head turns) turn h n q
 
+-- returns, cancels, transmits and drains are silent
 give_back_silent : AreSilent is_give_back
 give_back_silent (event.GiveBack binding list) q = refl
 give_back_silent _ q = cc
@@ -90,6 +93,7 @@ drain_silent : AreSilent is_drain
 drain_silent event.Drain q = refl
 drain_silent _ q = cc
 
+-- what they add
 pub sound_give_back : EachBoundAdds is_give_back (λ net. 0)
 sound_give_back = sound_adds is_give_back (λ net. 0) give_back_silent each_give_back
 

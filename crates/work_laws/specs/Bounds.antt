@@ -64,20 +64,21 @@ is_originated _ = false
 abbrev pub originates : List Row → Bool
 originates rows = list_any is_originated rows
 
--- After every sound journal of a stack with a binding each such turn that is answered Moved, and in which the
--- miniport originates nothing, lowers the work.
+-- After every sound journal of a stack with a binding each turn with this event that is answered Moved, and in
+-- which the miniport originates nothing, lowers the work.
 abbrev pub EachLowers : Event → Type 0
 EachLowers e =
     (head : StackHead) (turns : List Turn) (turn : Turn) → Sound head turns → 1 ≤ length head.bindings → Next (seen head turns) turn → turn.event ≡ e → turn.reply ≡ reply.Moved → originates turn.rows ≡ false →
     work (after_turn (seen head turns) turn) + 1 ≤ work (seen head turns)
 
--- while the stack doesn't run, the miniport originates nothing
+-- While the stack doesn't run the miniport originates nothing, and each turn with this event that is answered Moved
+-- lowers the work.
 abbrev pub EachLowersWhileStill : Event → Type 0
 EachLowersWhileStill e =
     (head : StackHead) (turns : List Turn) (turn : Turn) → Sound head turns → 1 ≤ length head.bindings → phase_is_running (seen head turns).phase ≡ false → Next (seen head turns) turn → turn.event ≡ e → turn.reply ≡ reply.Moved →
     work (after_turn (seen head turns) turn) + 1 ≤ work (seen head turns)
 
--- a pump originates nothing
+-- In a pump the miniport originates nothing, and each one that is answered Moved lowers the work.
 abbrev pub EachPumpLowers : Type 0
 EachPumpLowers =
     (head : StackHead) (turns : List Turn) (turn : Turn) → Sound head turns → 1 ≤ length head.bindings → Next (seen head turns) turn → turn.event ≡ event.Pump → turn.reply ≡ reply.Moved →
@@ -110,8 +111,8 @@ EachBoundAdds test room =
     (head : StackHead) (turns : List Turn) (turn : Turn) → Sound head turns → 1 ≤ length head.bindings → Next (seen head turns) turn → test turn.event ≡ true →
     work (after_turn (seen head turns) turn) ≤ work (seen head turns) + room (seen head turns)
 
--- After every sound journal of a stack with a binding each such turn in which the miniport originates nothing adds
--- nothing.
+-- After every sound journal of a stack with a binding each turn with such an event in which the miniport originates
+-- nothing adds nothing.
 abbrev pub EachQuietAddsNothing : (Event → Bool) → Type 0
 EachQuietAddsNothing test =
     (head : StackHead) (turns : List Turn) (turn : Turn) → Sound head turns → 1 ≤ length head.bindings → Next (seen head turns) turn → test turn.event ≡ true → originates turn.rows ≡ false →
