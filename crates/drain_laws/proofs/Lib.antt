@@ -7,3 +7,4 @@ pub mod Rests
 pub mod Idle
 pub mod Pausing
 pub mod Serving
+pub mod Served
