@@ -6,3 +6,5 @@ pub mod Lent
 pub mod Rests
 pub mod Idle
 pub mod Pausing
+pub mod Serving
+pub mod Served

@@ -142,13 +142,13 @@ take_rest : (net : Net) (o : Option LiveList) → Rest net none net → Rest (af
 take_rest net None h = h
 take_rest net (Some l) h = cross_rest net l.list (cross_no net.next.message) l.frames h
 
--- rows that tell states, none of them Detached: each filter stays of its kind
-abbrev is_gentle : Row → Bool
+-- rows that tell states, none of them Detached or Halted: each filter stays of its kind
+abbrev pub is_gentle : Row → Bool
 is_gentle (row.Phase (of.Module m s)) = not (is_detached s)
-is_gentle (row.Phase (of.Stack p)) = true
+is_gentle (row.Phase (of.Stack p)) = not (phase_is_halted p)
 is_gentle _ = false
 
-abbrev AreGentle : List Row → Type 0
+abbrev pub AreGentle : List Row → Type 0
 AreGentle [] = Unit {0}
 AreGentle (r ∷ rows) = (is_gentle r ≡ true) × AreGentle rows
 
@@ -188,13 +188,13 @@ gentle_rows : (net : Net) (rows : List Row) → AreGentle rows → (f : ℕ) →
 gentle_rows net [] g f = refl
 gentle_rows net (r ∷ rows) g f = gentle_rows (after net r) rows g.1 f ∙ gentle_holds net r g.0 f
 
-abbrev IsGentle : Outcome → Type 0
+abbrev pub IsGentle : Outcome → Type 0
 IsGentle o = AreGentle o.rows
 
-begin_gentle : (net : Net) → IsGentle (begin_outcome net)
+pub begin_gentle : (net : Net) → IsGentle (begin_outcome net)
 begin_gentle net = by_test IsGentle (phase_is_running net.phase) _ _ (λ _. (refl, gentle_states state.Pausing (binding_ids 0 net.modules.bindings) refl)) (λ _. tt)
 
-pause_gentle : (net : Net) → IsGentle (pause_outcome net)
+pub pause_gentle : (net : Net) → IsGentle (pause_outcome net)
 pause_gentle net =
     let i : ℕ = first_unpaused net in
     by_test IsGentle (phase_is_pausing net.phase) _ _
@@ -204,7 +204,7 @@ pause_gentle net =
     (λ _. tt))
     (λ _. tt)
 
-restart_gentle : (net : Net) → IsGentle (restart_outcome net)
+pub restart_gentle : (net : Net) → IsGentle (restart_outcome net)
 restart_gentle net =
     let i : ℕ = running_floors net in
     let ms : List ModuleId = slice_index_or (reverse (floors net.modules)) i [] in
