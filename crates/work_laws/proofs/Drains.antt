@@ -41,14 +41,14 @@ use Rattle.work_laws.proofs.Moves.{same_is}
 use Rattle.work_laws.proofs.Pumps.{IsFine, all_fine, MovedLowers, pump_lowers}
 
 -- the state with other things
-abbrev with_things : Net → List Thing → Net
+abbrev pub with_things : Net → List Thing → Net
 with_things net ts = record net { things = ts }
 
-other_numbers : (n : ℕ) (ls : List LiveList) → is_live n ls ≡ false → Each (λ l. (l.list.0 == n) ≡ false) ls
+pub other_numbers : (n : ℕ) (ls : List LiveList) → is_live n ls ≡ false → Each (λ l. (l.list.0 == n) ≡ false) ls
 other_numbers n [] h = tt
 other_numbers n (l ∷ ls) h = (grind (arith, nat_tests), other_numbers n ls (grind (arith, nat_tests)))
 
-Each-both : (P Q R : LiveList → Type 0) → ((l : LiveList) → P l → Q l → R l) → (ls : List LiveList) → Each P ls → Each Q ls → Each R ls
+pub Each-both : (P Q R : LiveList → Type 0) → ((l : LiveList) → P l → Q l → R l) → (ls : List LiveList) → Each P ls → Each Q ls → Each R ls
 Each-both P Q R f [] p q = tt
 Each-both P Q R f (l ∷ ls) p q = (f l p.0 q.0, Each-both P Q R f ls p.1 q.1)
 
@@ -108,7 +108,7 @@ live_less n test (l ∷ ls) h =
     neither true b e g = cc
     neither false b e g = g
 
-apart_less : (test : LiveList → Bool) (ls : List LiveList) → IsApart ls → IsApart (filter test ls)
+pub apart_less : (test : LiveList → Bool) (ls : List LiveList) → IsApart ls → IsApart (filter test ls)
 apart_less test [] h = tt
 apart_less test (l ∷ ls) h =
     elim (test l) as (λ b. IsApart (cond b (l ∷ filter test ls) (filter test ls))) [ true ↦ (live_less l.list.0 test ls h.0, apart_less test ls h.1) | false ↦ apart_less test ls h.1 ]

@@ -82,3 +82,25 @@ found_pass net l list way to a h =
 
 pub found_home : (net : Net) (l : LiveList) (list : ListNo) (owner : ModuleId) (status : ListStatus) → (l.list.0 == list.0) ≡ false → Found net l → Found (after net (row.Home list owner status)) l
 found_home net l list owner status a h = by_lists l.list.0 _ _ l (lists-without list.0 net.things) (found_others l.list.0 list.0 (lists net.things) l a h)
+
+-- a list of another number is changed
+found_beside : (n m : ℕ) (f : LiveList → LiveList) → KeepsNumber f → (ls : List LiveList) (l : LiveList) → (n == m) ≡ false → list_of n ls ≡ Some l → list_of n (retouched m f ls) ≡ Some l
+found_beside n m f k [] l a h = cc
+found_beside n m f k (x ∷ ls) l a h =
+    let cases : (b c : Bool) → (x.list.0 == n) ≡ b → (x.list.0 == m) ≡ c → cond b (Some x) (list_of n ls) ≡ Some l → cond ((cond c (f x) x).list.0 == n) (Some (cond c (f x) x)) (list_of n (retouched m f ls)) ≡ Some l = elim [
+      | true ↦ elim [
+        | true ↦ λ s t g. absurd (clash x.list.0 n m s t a)
+        | false ↦ λ s t g. rw s g
+      ]
+      | false ↦ elim [
+        | true ↦ λ s t g. let same : ((f x).list.0 == n) ≡ false = ap (λ i. i == n) (k x) ∙ s in rw same (found_beside n m f k ls l a g)
+        | false ↦ λ s t g. rw s (found_beside n m f k ls l a g)
+      ]
+    ] in
+    cases (x.list.0 == n) (x.list.0 == m) refl refl h
+  where
+    clash : (i n m : ℕ) → (i == n) ≡ true → (i == m) ≡ true → (n == m) ≡ false → ⊥
+    clash i n m s t a = grind (arith, nat_tests)
+
+pub found_back_other : (net : Net) (l : LiveList) (list : ListNo) (m : ModuleId) (status : ListStatus) → (l.list.0 == list.0) ≡ false → Found net l → Found (after net (row.TurnBack list m status)) l
+found_back_other net l list m status a h = by_lists l.list.0 _ _ l (lists-changed list.0 (had_by m) net.things) (found_beside l.list.0 list.0 (had_by m) (λ k. refl) (lists net.things) l a h)

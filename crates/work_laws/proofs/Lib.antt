@@ -15,4 +15,5 @@ pub mod Givings
 pub mod Pumps
 pub mod Drains
 pub mod Others
+pub mod Cancels
 pub mod Movements

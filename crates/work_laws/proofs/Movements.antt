@@ -10,12 +10,13 @@ use Rattle.stack_rules.specs.Net.{Net, after_rows, told}
 use Rattle.stack_rules.specs.Sound.{outcome}
 use Rattle.stack_rules.specs.Work.{work}
 use Rattle.place_laws.specs.Kept.{IsInPlace}
-use Rattle.work_laws.specs.Bounds.{EachLowersWhileStill, receive_room, is_give_back, is_done, is_transmit, is_drain, originates, EachLowers, EachPumpLowers, EachAddsInPlace, EachQuietAddsNothing}
+use Rattle.work_laws.specs.Bounds.{EachLowersWhileStill, receive_room, is_give_back, is_cancelling, is_done, is_transmit, is_drain, originates, EachLowers, EachPumpLowers, EachAddsInPlace, EachQuietAddsNothing}
 use Rattle.work_laws.proofs.Filters.{Lowers}
 use Rattle.work_laws.proofs.Pumps.{pump_lowers}
 use Rattle.work_laws.proofs.Drains.{IsStill, drain_lowers, loops_running}
 use Rattle.stack_rules.specs.Work.{bottom}
 use Rattle.work_laws.proofs.Adds.{Adds}
+use Rattle.work_laws.proofs.Cancels.{cancel_adds}
 use Rattle.work_laws.proofs.Others.{give_back_adds, done_adds, transmit_adds, drain_adds}
 
 pumped : (net : Net) (e : Event) (r : Reply) (rows : List Row) (choice : Choice) → IsInPlace net → e ≡ event.Pump → r ≡ (outcome net e choice).reply → rows ≡ (outcome net e choice).rows → r ≡ reply.Moved → work (after_rows (told net e r) rows) + 1 ≤ work net
@@ -44,6 +45,10 @@ gives_back : AddsInPlace is_give_back (λ net. 0)
 gives_back net (event.GiveBack binding list) r rows choice h q e = subst (Adds net 0) (sym e) (give_back_adds net binding list h)
 gives_back net _ r rows choice h q e = cc
 
+cancels : AddsInPlace is_cancelling (λ net. 0)
+cancels net (event.Cancel id) r rows choice h q e = subst (Adds net 0) (sym e) (cancel_adds net id h)
+cancels net _ r rows choice h q e = cc
+
 dones : AddsInPlace is_done (λ net. bottom net)
 dones net (event.CrossDone message status) r rows choice h q e = subst (Adds net (bottom net)) (sym e) (done_adds net message status h)
 dones net _ r rows choice h q e = cc
@@ -67,6 +72,9 @@ each_in_place test room adds net turn h n q = adds net turn.event turn.reply tur
 
 pub each_give_back : EachAddsInPlace is_give_back (λ net. 0)
 each_give_back = each_in_place is_give_back (λ net. 0) gives_back
+
+pub each_cancel : EachAddsInPlace is_cancelling (λ net. 0)
+each_cancel = each_in_place is_cancelling (λ net. 0) cancels
 
 pub each_done : EachAddsInPlace is_done (λ net. bottom net)
 each_done = each_in_place is_done (λ net. bottom net) dones

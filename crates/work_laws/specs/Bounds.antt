@@ -86,6 +86,10 @@ abbrev pub is_give_back : Event → Bool
 is_give_back (event.GiveBack binding list) = true
 is_give_back _ = false
 
+abbrev pub is_cancelling : Event → Bool
+is_cancelling (event.Cancel id) = true
+is_cancelling _ = false
+
 abbrev pub is_done : Event → Bool
 is_done (event.CrossDone message status) = true
 is_done _ = false

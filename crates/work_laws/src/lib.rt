@@ -5,7 +5,7 @@
 ghost use Rattle.std.specs.Prelude.{◌*◌, ◌-◌};
 ghost use Rattle.stack_rules.specs.Work.{bottom};
 ghost use Rattle.journal_types.specs.declared.Event.TheVariants.{Drain};
-ghost use Rattle.work_laws.specs.Bounds.{is_ask, is_done, is_drain, is_give_back, is_indication, is_pause, is_send, is_status, is_take, is_transmit, receive_room, send_room, EachAdds, EachAddsInPlace, EachLowers, EachLowersWhileStill, EachPumpLowers, EachQuietAddsNothing};
+ghost use Rattle.work_laws.specs.Bounds.{is_ask, is_cancelling, is_done, is_drain, is_give_back, is_indication, is_pause, is_send, is_status, is_take, is_transmit, receive_room, send_room, EachAdds, EachAddsInPlace, EachLowers, EachLowersWhileStill, EachPumpLowers, EachQuietAddsNothing};
 
 /// Where everything stands in its place, each pump that is answered Moved lowers the work.
 pub fn pumps_lower_work()
@@ -40,6 +40,11 @@ pub fn items_add_little()
 pub fn pauses_add_nothing()
     ensures pause { EachAdds is_pause (λ net. 0) }
     ensures take { EachAdds is_take (λ net. 0) }
+{}
+
+/// Where everything stands in its place, a cancel adds nothing to the work.
+pub fn cancels_add_nothing()
+    ensures { EachAddsInPlace is_cancelling (λ net. 0) }
 {}
 
 /// Where everything stands in its place, a list that is given back adds nothing to the work, and one that

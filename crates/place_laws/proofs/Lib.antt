@@ -1,0 +1,15 @@
+pub mod Spots
+pub mod Good
+pub mod Looks
+pub mod Statuses
+pub mod Rows
+pub mod Routes
+pub mod Keepers
+pub mod Clones
+pub mod Sends
+pub mod Homes
+pub mod Receives
+pub mod Lent
+pub mod Drains
+pub mod Events
+pub mod Turns
