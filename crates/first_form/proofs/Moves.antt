@@ -26,6 +26,7 @@ use Rattle.stack_rules.specs.Places.{position, is_passed, is_kept_by, kept_lists
 use Rattle.stack_rules.specs.Targets.{homeward}
 use Rattle.stack_rules.specs.Sends.{ring_is_full, miniport_rows, looped, transmitted}
 use Rattle.stack_rules.specs.Dones.{home_rows, released, homeward_rows}
+use Rattle.stack_rules.specs.Pauses.{first_unpaused}
 use Rattle.stack_rules.specs.Pumps.{moved_rows, thing_rows}
 use Rattle.first_form.specs.First.{IsFirst, IsFirstList, IsFirstStand, PhaseFits}
 use Rattle.first_form.proofs.Lists.{found, Fit, Fit-from, Fit-push, Fit-without, gone-without, found-changed, without-changed, some-found, found_fits, IsFound, IsFirstAway, first_away, IsKeptIn, first_kept_list, by_test, firsts_from, below_from, apart_from}
@@ -189,6 +190,7 @@ pub record AdvancesTo (net other : Net) : Type 0 where
   pub phase : other.phase ≡ net.phase
   pub miniport : other.modules.miniport ≡ net.modules.miniport
   pub modules : other.modules ≡ net.modules
+  pub unpaused : first_unpaused other ≡ first_unpaused net
   pub head : other.head ≡ net.head
 
 pub advances_to : (net other : Net) → IsFirst net → Advances net other → AdvancesTo net other
@@ -199,6 +201,7 @@ advances_to net other h a =
       phase = refl;
       miniport = refl;
       modules = refl;
+      unpaused = refl;
       head = refl;
     } in
     subst (AdvancesTo net) (sym a.is) same
