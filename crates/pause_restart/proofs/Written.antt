@@ -126,7 +126,7 @@ pub halt_acts : (b b' : BookView) → IsFirst b.core.tray.net → b.core.tray.ne
 halt_acts b b' first was w =
     acts_from b b' (halt_outcome b.core.tray.net) reply.Halted (halt_rows b.core.tray.net) (halts b.core.tray.net first was (nothing_paused b.core.tray.net first was)) tt w (halt_short b.core.tray.net first)
 
--- an event that the phase refuses
+-- tests of a phase that is another
 not_halted : (p : Phase) → (p ≡ phase.Halted → ⊥) → phase_is_halted p ≡ false
 not_halted phase.Halted not = absurd (not refl)
 not_halted phase.Paused not = refl
@@ -155,9 +155,11 @@ neither phase.Restarting not other = absurd (other refl)
 neither phase.Running not other = refl
 neither phase.Pausing not other = refl
 
+-- what is answered by a test of the phase
 abbrev tested : (Phase → Bool) → Outcome → Phase → Outcome
 tested test at p = cond (test p) at (refused (refusal.WrongPhase p))
 
+-- an event that the phase refuses
 refused_by : (b : BookView) (test : Phase → Bool) (at : Outcome) (p : Phase) → p ≡ b.core.tray.net.phase → test p ≡ false → Acts b b (tested test at b.core.tray.net.phase) (reply.Refused (refusal.WrongPhase p))
 refused_by b test at p read fails =
     answers_alone b (tested test at b.core.tray.net.phase) (reply.Refused (refusal.WrongPhase p))

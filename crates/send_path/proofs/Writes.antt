@@ -27,7 +27,7 @@ use Rattle.stack_rules.specs.declared.Thing.TheVariants as thing
 use Rattle.stack_rules.specs.Tests.{phase_is_running}
 use Rattle.stack_rules.specs.Net.{Net, lists}
 use Rattle.stack_rules.specs.Places.{agenda_first, is_full, is_kept_by, kept_lists}
-use Rattle.stack_rules.specs.Outcome.{Outcome, answered, refused, list_no}
+use Rattle.stack_rules.specs.Outcome.{Outcome, refused, list_no}
 use Rattle.stack_rules.specs.Sends.{sent, send_outcome, transmitted, transmit_outcome, miniport_rows, ring_is_full}
 use Rattle.stack_rules.specs.Dones.{home_rows, homeward_rows, released}
 use Rattle.stack_rules.specs.Pumps.{pump_outcome, moved_rows}

@@ -243,14 +243,17 @@ rows_where net l full = row.Give l.list Miniport handler.Send ∷ (if full then 
 abbrev IsCounted : MiniportState → MiniportState → Type 0
 IsCounted old new = new ≡ record old { served = one_send old.served; kept = new.kept }
 
+-- the miniport did what rows show in which it is given one list
 given_did : (b : BookView) (c : CoreView) (t : TrayView) (m : MiniportState) (room bytes : ℕ) (rows : List Row) → IsCounted b.miniport m → Shows 1 [] rows → DriversDid b (changed_book b c t m room bytes) rows
 given_did b c t m room bytes rows counted shows =
     calls_did b (changed_book b c t m room bytes) rows b.miniport.port m.kept 1 [] shows
     (counted ∙ ap (λ w. record b.miniport { served = one_send b.miniport.served; kept = m.kept; log = w }) (sym (append-nil b.miniport.log))) refl
 
+-- it is given one list where it keeps it
 kept_shows : (l : Common) → Shows 1 [] (kept_rows l)
 kept_shows l = record { gives = refl; logs = refl; homes = λ b. refl }
 
+-- and where it turns it back
 lacking_shows : (ms : Modules) (l : Common) → Shows 1 [] (lacking_rows ms l)
 lacking_shows ms l =
     shows-append 1 0 [] [] (row.Give l.list Miniport handler.Send ∷ row.TurnBack l.list Miniport Resources ∷ []) _

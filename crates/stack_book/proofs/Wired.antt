@@ -129,6 +129,7 @@ wired_still {b} room bytes w (wires l rest kept) = tt
 abbrev wire_rows : Net → Common → List Row
 wire_rows net l = row.Wire l.list l.frames ∷ homeward_by net.modules l.list l.owner l.direction (position net.modules.order Miniport) Success ∷ []
 
+-- the rows of a transmit show the frames of the list
 wire_shows : (net : Net) (l : Common) → Shows 0 (l.frames ∷ []) (wire_rows net l)
 wire_shows net l =
     shows-append 0 0 (l.frames ∷ []) [] (row.Wire l.list l.frames ∷ []) _

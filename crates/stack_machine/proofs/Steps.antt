@@ -57,6 +57,7 @@ turn_same old mid new asked answer same t = record {
   drivers = did_from same.miniport same.protocols t.drivers;
 }
 
+-- the same where a turn was added at all
 pub turned_same : (old mid new : BookView) (asked : Asked) (r : Result Reply OutOfMemory) → Same old mid → IfOk r (λ answer. AddsTurn mid new asked answer) → IfOk r (λ answer. AddsTurn old new asked answer)
 turned_same old mid new asked (Ok answer) same t = turn_same old mid new asked answer same t
 turned_same old mid new asked (Err e) same t = tt
