@@ -10,7 +10,7 @@ use Rattle.stack_rules.specs.declared.Thing.{Thing}
 use Rattle.stack_rules.specs.declared.Thing.TheVariants as thing
 use Rattle.stack_rules.specs.Net.{lists, list_of, without, changed, had_by}
 use Rattle.stack_rules.specs.Places.{is_away, is_passed, is_kept_by}
-use Rattle.first_form.specs.First.{IsFirstList, IsFirstThing, OtherNumber, thing_steps, steps_left}
+use Rattle.first_form.specs.First.{IsFirstList, IsFirstThing, OtherNumber}
 
 -- the list that is found by a number
 abbrev pub found : ℕ → List Thing → Option LiveList
@@ -147,22 +147,10 @@ without-changed n m (thing.List y ∷ ts) =
     ] in
     cases (y.list.0 == n) refl
 
--- the steps of the lists but one
-pub steps-without : (head : StackHead) (next n : ℕ) (ts : List Thing) (l : LiveList) → Fit head next ts → found n ts ≡ Some l → sum_by thing_steps (without n ts) + steps_left l.stand ≡ sum_by thing_steps ts
-steps-without head next n [] l h f = cc
-steps-without head next n (thing.Status s ∷ ts) l h f = absurd h
-steps-without head next n (thing.Answer a ∷ ts) l h f = absurd h
-steps-without head next n (thing.List x ∷ ts) l h f =
-    let cases : (b : Bool) → (x.list.0 == n) ≡ b → cond b (Some x) (found n ts) ≡ Some l → sum_by thing_steps (cond (not b) (thing.List x ∷ without n ts) (without n ts)) + steps_left l.stand ≡ sum_by thing_steps (thing.List x ∷ ts) = elim [
-      | true ↦ λ t f.
-          let same : x ≡ l = some_same x l f in
-          let number : x.list.0 ≡ n = grind (arith, nat_tests) in
-          let absent : without n ts ≡ ts = without-absent n ts (subst (λ k. found k ts ≡ None) number h.0.absent) in
-          let steps : steps_left x.stand ≡ steps_left l.stand = ap (λ y. steps_left y.stand) same in
-          rw absent (omega (arith, sum_by-cons thing_steps (thing.List x) ts))
-      | false ↦ λ t f. omega (arith, steps-without head next n ts l h.1 f, sum_by-cons thing_steps (thing.List x) ts, sum_by-cons thing_steps (thing.List x) (without n ts))
-    ] in
-    cases (x.list.0 == n) refl f
+-- what is found is there
+pub some-found : (n : ℕ) (ts : List Thing) (l : LiveList) → found n ts ≡ Some l → ts ≢ []
+some-found n [] l f e = cc
+some-found n (t ∷ ts) l f e = cc
 
 -- the first item on its way is a list of the state
 pub record IsFirstAway (t : Thing) (ts : List Thing) : Type 0 where

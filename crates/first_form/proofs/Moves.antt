@@ -1,5 +1,5 @@
--- What a pump and a transmission leave: one list moves on or is home, and fewer steps are left.
-use Rattle.std.proofs.Common.{◌≡◌, ℕ, ◌+◌, ◌<◌, Bool, true, cond, List, [], ◌∷◌, ◌++◌, Some, None, length, sum_by, refl, arith, ap, ap₂, sym, subst, eq-eqb, ◌∙◌, inl, inr}
+-- What a pump and a transmission leave: one list moves on or is home.
+use Rattle.std.proofs.Common.{◌≡◌, ◌≢◌, ℕ, ◌+◌, ◌<◌, Bool, true, cond, List, [], ◌∷◌, ◌++◌, Some, None, length, sum_by, refl, arith, ap, ap₂, sym, subst, eq-eqb, ◌∙◌, inl, inr}
 use Rattle.std.proofs.lemmas.List.Sums.{sum_by_push}
 use Rattle.ndis_base.specs.declared.ModuleId.{ModuleId}
 use Rattle.ndis_base.specs.declared.ModuleId.TheVariants.{Miniport, Filter, Binding}
@@ -26,9 +26,10 @@ use Rattle.stack_rules.specs.Places.{position, is_passed, is_kept_by, kept_lists
 use Rattle.stack_rules.specs.Targets.{homeward}
 use Rattle.stack_rules.specs.Sends.{ring_is_full, miniport_rows, looped, transmitted}
 use Rattle.stack_rules.specs.Dones.{home_rows, released, homeward_rows}
+use Rattle.stack_rules.specs.Pauses.{first_unpaused}
 use Rattle.stack_rules.specs.Pumps.{moved_rows, thing_rows}
-use Rattle.first_form.specs.First.{IsFirst, IsFirstList, IsFirstStand, PhaseFits, thing_steps, steps_left, steps_to_go, pause_to_go, floors_to_go}
-use Rattle.first_form.proofs.Lists.{found, Fit, Fit-from, Fit-push, Fit-without, gone-without, found-changed, without-changed, steps-without, found_fits, IsFound, IsFirstAway, first_away, IsKeptIn, first_kept_list, by_test, firsts_from, below_from, apart_from}
+use Rattle.first_form.specs.First.{IsFirst, IsFirstList, IsFirstStand, PhaseFits}
+use Rattle.first_form.proofs.Lists.{found, Fit, Fit-from, Fit-push, Fit-without, gone-without, found-changed, without-changed, some-found, found_fits, IsFound, IsFirstAway, first_away, IsKeptIn, first_kept_list, by_test, firsts_from, below_from, apart_from}
 use Rattle.first_form.proofs.Targets.{homeward_is}
 
 -- the lists of a state of the first form, one by one
@@ -49,20 +50,20 @@ pub turned_is : (n : ℕ) (m : ModuleId) (way : PassWay) (to : Target) (ts : Lis
 turned_is n m way to ts l f =
     ap₂ (λ us o. at_end us (passed_to way to o)) (without-changed n m (changed n (had_by m) ts) ∙ without-changed n m ts) (found-changed n m (changed n (had_by m) ts) _ (found-changed n m ts l f))
 
--- the lists and the port alone change, and fewer steps are left
+-- the lists and the port alone change, and there was one
 pub record Advances (net other : Net) : Type 0 where
   pub things : List Thing
   pub port : Port
   pub is : other ≡ record net { things = things; port = port }
   pub fit : Fit net.head net.next.list things
-  pub fewer : sum_by thing_steps things < sum_by thing_steps net.things
+  pub some : net.things ≢ []
   pub answers : length port.answers_by ≡ length net.port.answers_by
   pub delivers : length port.delivers_by ≡ length net.port.delivers_by
 
 -- a list moves on
-moves_on : (net : Net) (l x : LiveList) (sent : ℕ) → IsFirst net → found l.list.0 net.things ≡ Some l → x.list.0 ≡ l.list.0 → IsFirstList net.head x → steps_left x.stand < steps_left l.stand →
+moves_on : (net : Net) (l x : LiveList) (sent : ℕ) → IsFirst net → found l.list.0 net.things ≡ Some l → x.list.0 ≡ l.list.0 → IsFirstList net.head x →
     Advances net (record net { things = without l.list.0 net.things ++ thing.List x ∷ []; port = record net.port { sent = sent } })
-moves_on net l x sent h f same first fewer =
+moves_on net l x sent h f same first =
     let fit = fit_of net h in
     let is : IsFound net.head net.next.list l.list.0 l = found_fits net.head net.next.list l.list.0 net.things l fit f in
     let gone : found x.list.0 (without l.list.0 net.things) ≡ None = subst (λ n. found n (without l.list.0 net.things) ≡ None) (sym same) (gone-without l.list.0 net.things) in
@@ -72,7 +73,7 @@ moves_on net l x sent h f same first fewer =
       port = record net.port { sent = sent };
       is = refl;
       fit = Fit-push net.head net.next.list (without l.list.0 net.things) x (Fit-without net.head net.next.list l.list.0 net.things fit) first (omega arith) gone;
-      fewer = omega (arith, sum_by_push thing_steps (without l.list.0 net.things) (thing.List x), steps-without net.head net.next.list l.list.0 net.things l fit f);
+      some = some-found l.list.0 net.things l f;
       answers = refl;
       delivers = refl;
     }
@@ -81,17 +82,17 @@ at_other : (net : Net) (port : Port) (ts us : List Thing) → ts ≡ us → Adva
 at_other net port ts us e a = subst (λ vs. Advances net (record net { things = vs; port = port })) (sym e) a
 
 -- the miniport keeps the list, or turns it back
-miniport_advances : (net : Net) (l : LiveList) → IsFirst net → IsFirstList net.head l → found l.list.0 net.things ≡ Some l → steps_left l.stand ≡ 3 → Advances net (after_rows net (miniport_rows net l))
-miniport_advances net l h first f three =
+miniport_advances : (net : Net) (l : LiveList) → IsFirst net → IsFirstList net.head l → found l.list.0 net.things ≡ Some l → Advances net (after_rows net (miniport_rows net l))
+miniport_advances net l h first f =
     let given = after net (row.Give l.list Miniport handler.Send) in
     by_test (λ rows. Advances net (after_rows given rows)) (ring_is_full net) _ _
     (λ _. subst (λ (r : Row). Advances net (after_rows given (row.TurnBack l.list Miniport Resources ∷ r ∷ []))) (sym (homeward_is net.head net.modules l (position net.modules.order Miniport) Resources first h.order))
     (at_other net net.port _ _ (turned_is l.list.0 Miniport (way.Done Resources) (Module l.owner) net.things l f)
     (moves_on net l (record l { last = Miniport; stand = stand.Passed (way.Done Resources) (Module l.owner); crossed = None }) net.port.sent h f refl
-    (record { binding = first.binding; owner = first.owner; within = first.within; down = first.down; root = first.root; here = refl; place = refl }) (omega arith))))
+    (record { binding = first.binding; owner = first.owner; within = first.within; down = first.down; root = first.root; here = refl; place = refl }))))
     (λ _. at_other net net.port _ _ (kept_is l.list.0 Miniport net.things l f)
     (moves_on net l (record l { last = Miniport; stand = stand.Kept Miniport }) net.port.sent h f refl
-    (record { binding = first.binding; owner = first.owner; within = first.within; down = first.down; root = first.root; here = first.here; place = tt }) (omega arith)))
+    (record { binding = first.binding; owner = first.owner; within = first.within; down = first.down; root = first.root; here = first.here; place = tt })))
 
 pub same_module-self : (m : ModuleId) → same_module m m ≡ true
 same_module-self Miniport = refl
@@ -105,15 +106,15 @@ home_is net l m status first e =
     ap (λ b. cond b (home_rows net l status) (row.Give l.list m (Rattle.stack_rules.specs.Dones.completed_by l.direction) ∷ homeward net.modules l (position net.modules.order m) status ∷ [])) same
     ∙ ap (λ o. row.Home l.list l.owner status ∷ released net l.owner o status) first.root
 
-home_advances : (net : Net) (l : LiveList) (m : ModuleId) (status : ListStatus) → IsFirst net → IsFirstList net.head l → found l.list.0 net.things ≡ Some l → steps_left l.stand ≡ 1 → m ≡ l.owner → Advances net (after_rows net (homeward_rows net l m status))
-home_advances net l m status h first f one e =
+home_advances : (net : Net) (l : LiveList) (m : ModuleId) (status : ListStatus) → IsFirst net → IsFirstList net.head l → found l.list.0 net.things ≡ Some l → m ≡ l.owner → Advances net (after_rows net (homeward_rows net l m status))
+home_advances net l m status h first f e =
     let fit = fit_of net h in
     subst (λ rows. Advances net (after_rows net rows)) (sym (home_is net l m status first e)) (record {
       things = without l.list.0 net.things;
       port = net.port;
       is = refl;
       fit = Fit-without net.head net.next.list l.list.0 net.things fit;
-      fewer = omega (arith, steps-without net.head net.next.list l.list.0 net.things l fit f);
+      some = some-found l.list.0 net.things l f;
       answers = refl;
       delivers = refl;
     })
@@ -121,11 +122,11 @@ home_advances net l m status h first f one e =
 moved_advances : (net : Net) (l : LiveList) (s : Stand) (keeps : Bool) → IsFirst net → IsFirstList net.head l → found l.list.0 net.things ≡ Some l → l.stand ≡ s → IsFirstStand l.owner s → is_passed s ≡ true → Advances net (after_rows net (moved_rows net l s keeps))
 moved_advances net l stand.Unplaced keeps h first f e place p = absurd place
 moved_advances net l (stand.Kept m) keeps h first f e place p = cc
-moved_advances net l (stand.Passed way.Down (Module Miniport)) keeps h first f e place p = miniport_advances net l h first f (ap steps_left e)
+moved_advances net l (stand.Passed way.Down (Module Miniport)) keeps h first f e place p = miniport_advances net l h first f
 moved_advances net l (stand.Passed way.Down (Module (Filter g))) keeps h first f e place p = absurd place
 moved_advances net l (stand.Passed way.Down (Module (Binding b))) keeps h first f e place p = absurd place
 moved_advances net l (stand.Passed way.Down Bindings) keeps h first f e place p = absurd place
-moved_advances net l (stand.Passed (way.Done status) (Module m)) keeps h first f e place p = home_advances net l m status h first f (ap steps_left e) place
+moved_advances net l (stand.Passed (way.Done status) (Module m)) keeps h first f e place p = home_advances net l m status h first f place
 moved_advances net l (stand.Passed (way.Done status) Bindings) keeps h first f e place p = absurd place
 moved_advances net l (stand.Passed way.Up to) keeps h first f e place p = absurd place
 moved_advances net l (stand.Passed (way.Back status) to) keeps h first f e place p = absurd place
@@ -143,11 +144,6 @@ pump_advances net t keeps h e =
 pub no_loop : (net : Net) (l : LiveList) → net.head.kind ≡ miniport_kind.Ring → looped net l ≡ []
 no_loop net l e = rw e
 
-kept_steps : (m : ModuleId) (s : Stand) → is_kept_by m s ≡ true → steps_left s ≡ 2
-kept_steps m stand.Unplaced e = cc
-kept_steps m (stand.Kept k) e = refl
-kept_steps m (stand.Passed way to) e = cc
-
 pub transmitted_is : (net : Net) (l : LiveList) → IsFirst net → IsFirstList net.head l → transmitted net l ≡ row.Wire l.list l.frames ∷ row.Pass l.list (way.Done Success) (Module l.owner) ∷ []
 transmitted_is net l h first =
     ap₂ (λ rows (r : Row). row.Wire l.list l.frames ∷ (rows ++ r ∷ [])) (no_loop net l h.head.ring) (homeward_is net.head net.modules l (position net.modules.order Miniport) Success first h.order)
@@ -159,12 +155,11 @@ transmit_advances net l rest h e =
     let is : IsKeptIn Miniport l net.things = first_kept_list net.head net.next.list Miniport net.things l rest fit e in
     let one : IsFound net.head net.next.list l.list.0 l = found_fits net.head net.next.list l.list.0 net.things l fit is.found in
     let first : IsFirstList net.head l = one.first in
-    let two : steps_left l.stand ≡ 2 = kept_steps Miniport l.stand is.kept in
     let wired : Port = record net.port { sent = net.port.sent + length l.frames } in
     subst (λ rows. Advances net (after_rows net rows)) (sym (transmitted_is net l h first))
     (at_other net wired _ _ (passed_is l.list.0 (way.Done Success) (Module l.owner) net.things l is.found)
     (moves_on net l (record l { stand = stand.Passed (way.Done Success) (Module l.owner); crossed = None }) (net.port.sent + length l.frames) h is.found refl
-    (record { binding = first.binding; owner = first.owner; within = first.within; down = first.down; root = first.root; here = refl; place = refl }) (omega arith)))
+    (record { binding = first.binding; owner = first.owner; within = first.within; down = first.down; root = first.root; here = refl; place = refl })))
 
 -- such a state is of the first form too
 phase_moves : (net : Net) (things : List Thing) (port : Port) (p : Phase) → (net.things ≡ [] → ⊥) → PhaseFits net p → PhaseFits (record net { things = things; port = port }) p
@@ -177,7 +172,6 @@ phase_moves net things port phase.Pausing some (inr h) = absurd (some h.1.1)
 
 pub advances_first : (net other : Net) → IsFirst net → Advances net other → IsFirst other
 advances_first net other h a =
-    let some : net.things ≡ [] → ⊥ = λ e. let none : sum_by thing_steps net.things ≡ 0 = ap (λ ts. sum_by thing_steps ts) e in let fewer : sum_by thing_steps a.things < sum_by thing_steps net.things = a.fewer in omega arith in
     subst IsFirst (sym a.is) (record {
       head = h.head;
       order = h.order;
@@ -186,38 +180,28 @@ advances_first net other h a =
       things = firsts_from net.head net.next.list a.things a.fit;
       apart = apart_from net.head net.next.list a.things a.fit;
       below = below_from net.head net.next.list a.things a.fit;
-      phase = phase_moves net a.things a.port net.phase some h.phase;
+      phase = phase_moves net a.things a.port net.phase a.some h.phase;
       counts = (a.answers ∙ h.counts.0, a.delivers ∙ h.counts.1);
     })
 
--- and the phase and the modules are the same, with fewer steps left
+-- and the phase and the modules are the same
 pub record AdvancesTo (net other : Net) : Type 0 where
   pub first : IsFirst other
   pub phase : other.phase ≡ net.phase
   pub miniport : other.modules.miniport ≡ net.modules.miniport
   pub modules : other.modules ≡ net.modules
+  pub unpaused : first_unpaused other ≡ first_unpaused net
   pub head : other.head ≡ net.head
-  pub steps : steps_to_go other < steps_to_go net
-  pub pause : pause_to_go other < pause_to_go net
 
 pub advances_to : (net other : Net) → IsFirst net → Advances net other → AdvancesTo net other
 advances_to net other h a =
     let moved : Net = record net { things = a.things; port = a.port } in
-    let floors : floors_to_go moved net.phase ≡ floors_to_go net net.phase = same_floors net a.things a.port net.phase in
     let same : AdvancesTo net moved = record {
       first = subst IsFirst a.is (advances_first net other h a);
       phase = refl;
       miniport = refl;
       modules = refl;
+      unpaused = refl;
       head = refl;
-      steps = a.fewer;
-      pause = omega (arith, a.fewer);
     } in
     subst (AdvancesTo net) (sym a.is) same
-  where
-    same_floors : (net : Net) (things : List Thing) (port : Port) (p : Phase) → floors_to_go (record net { things = things; port = port }) p ≡ floors_to_go net p
-    same_floors net things port phase.Halted = refl
-    same_floors net things port phase.Paused = refl
-    same_floors net things port phase.Restarting = refl
-    same_floors net things port phase.Running = refl
-    same_floors net things port phase.Pausing = refl

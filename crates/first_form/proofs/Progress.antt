@@ -22,13 +22,13 @@ use Rattle.stack_rules.specs.Outcome.{Outcome, answered}
 use Rattle.stack_rules.specs.Sends.{send_outcome, transmit_outcome, transmitted}
 use Rattle.stack_rules.specs.Pumps.{pump_outcome, thing_rows}
 use Rattle.stack_rules.specs.Drains.{drain_outcome}
-use Rattle.stack_rules.specs.Pauses.{binding_ids, state_row, state_rows, initialize_rows, pause_outcome, paused_rows, restart_rows, halt_rows}
+use Rattle.stack_rules.specs.Pauses.{first_unpaused, binding_ids, state_row, state_rows, initialize_rows, pause_outcome, paused_rows, restart_rows, halt_rows}
 use Rattle.stack_rules.specs.Sound.{outcome, Next}
-use Rattle.first_form.specs.First.{IsFirst, IsFirstEvent, PhaseFits, pause_to_go, floors_to_go, positions_left}
+use Rattle.first_form.specs.First.{IsFirst, IsFirstEvent, PhaseFits}
 use Rattle.first_form.proofs.Lists.{by_test}
 use Rattle.first_form.proofs.States.{after_rows-append, with_bindings, all_take}
 use Rattle.first_form.proofs.Moves.{AdvancesTo, advances_to, pump_advances, transmit_advances}
-use Rattle.first_form.proofs.Phases.{top_after, bottom_rows, low_rows, high_rows, halt_is}
+use Rattle.first_form.proofs.Phases.{at_top, at_bottom, top_after, bottom_rows, low_rows, high_rows, halt_is}
 use Rattle.first_form.proofs.Rings.{lists_away, none_away, first_on_way, pump_idle, pump_works, RingCases, ring_cases, DrainCases, drain_cases}
 use Rattle.first_form.proofs.Kept.{first_kept, turn_is, fits_at, sent_is}
 use Rattle.first_form.proofs.Outcomes.{answers_with, initialize_is, initialize_refused, begin_is, pause_top, pause_waits, pause_bottom, restart_low, restart_high, halts}
@@ -169,7 +169,7 @@ send_gives net turn binding cancel frames h n is =
 pub record PauseGives (net : Net) (turn : Turn) : Type 0 where
   pub first : IsFirst (after_turn net turn)
   pub answer : (turn.reply ≡ reply.Next) ⊎ ((turn.reply ≡ reply.Paused) ⊎ ((n : ℕ) × (turn.reply ≡ reply.Waiting n)))
-  pub next : turn.reply ≡ reply.Next → ((after_turn net turn).phase ≡ phase.Pausing) × (pause_to_go (after_turn net turn) < pause_to_go net)
+  pub next : turn.reply ≡ reply.Next → ((after_turn net turn).phase ≡ phase.Pausing) × ((first_unpaused net ≡ 0) × (first_unpaused (after_turn net turn) ≡ 1))
   pub paused : turn.reply ≡ reply.Paused → (after_turn net turn).phase ≡ phase.Paused
   pub waiting : (n : ℕ) → turn.reply ≡ reply.Waiting n → (turn.rows ≡ []) × ((after_turn net turn ≡ net) × ((n ≡ length net.things) × (0 < length net.things)))
 
@@ -189,9 +189,6 @@ pause_gives net turn h n is p = by_phase (fits_at net phase.Pausing h p)
     first : IsFirst (after_turn net turn)
     first = kept_at net turn event.PauseNext h n is tt
 
-    floors_at : (m : Net) (q : Phase) → m.phase ≡ q → floors_to_go m m.phase ≡ floors_to_go m q
-    floors_at m q e = ap (floors_to_go m) e
-
     by_phase : PhaseFits net phase.Pausing → PauseGives net turn
     by_phase (inl f) = by_left (cases_nil net.things)
       where
@@ -201,13 +198,12 @@ pause_gives net turn h n is p = by_phase (fits_at net phase.Pausing h p)
             let r : turn.reply ≡ reply.Next = is.reply in
             let later : Net = after_rows (with_bindings net (replicate (length net.modules.bindings) state.Paused)) (state_row state.Pausing Miniport ∷ []) in
             let after : after_turn net turn ≡ later = is.after ∙ top_after net h in
-            let was : floors_to_go net net.phase ≡ 2 = floors_at net phase.Pausing p ∙ ap positions_left f.0 in
-            let now : floors_to_go later later.phase ≡ 1 = floors_at later phase.Pausing p in
-            let fewer : pause_to_go later < pause_to_go net = omega arith in
+            let many : length net.modules.bindings ≡ length net.head.bindings = ap length f.1 ∙ length-replicate (length net.head.bindings) state.Pausing in
+            let bottom : first_unpaused later ≡ 1 = at_bottom later (subst IsFirst after first) refl (ap (λ n. replicate n state.Paused) many) in
             record {
               first = first;
               answer = inl r;
-              next = λ _. (ap (λ (m : Net). m.phase) after ∙ p, subst (λ (m : Net). pause_to_go m < pause_to_go net) (sym after) fewer);
+              next = λ _. (ap (λ (m : Net). m.phase) after ∙ p, (at_top net h f.1, ap first_unpaused after ∙ bottom));
               paused = λ q. cc;
               waiting = λ k q. cc;
             }

@@ -1,5 +1,5 @@
 -- The state of a stack of the built form, between turns and while rows are written.
-use Rattle.std.specs.Prelude.{◌≡◌, ℕ, ◌+◌, ◌<◌, ◌≤◌, [], None, length, replicate, sum_by, All, AllPairs, ◌⊎◌, ◌≢◌}
+use Rattle.std.specs.Prelude.{◌≡◌, ℕ, ◌<◌, ◌≤◌, [], None, length, replicate, All, AllPairs, ◌⊎◌, ◌≢◌}
 use Rattle.ndis_base.specs.declared.ModuleId.{ModuleId}
 use Rattle.ndis_base.specs.declared.ModuleId.TheVariants.{Miniport, Binding}
 use Rattle.ndis_base.specs.declared.ModuleState.{ModuleState}
@@ -97,31 +97,3 @@ pub record IsFirst (net : Net) : Type 0 where
   pub below : All (λ l. l.list.0 < net.next.list) (lists net.things)
   pub phase : PhaseFits net net.phase
   pub counts : (length net.port.answers_by ≡ length net.head.bindings) × (length net.port.delivers_by ≡ length net.head.bindings)
-
--- how far a list has still to go
-abbrev pub steps_left : Stand → ℕ
-steps_left (stand.Passed way.Down to) = 3
-steps_left (stand.Kept m) = 2
-steps_left (stand.Passed (way.Done status) to) = 1
-steps_left _ = 0
-
-abbrev pub thing_steps : Thing → ℕ
-thing_steps (thing.List l) = steps_left l.stand
-thing_steps (thing.Status s) = 0
-thing_steps (thing.Answer a) = 0
-
--- how many pumps and drains there are still to come
-abbrev pub steps_to_go : Net → ℕ
-steps_to_go net = sum_by thing_steps net.things
-
--- what a pause has still to do: each list's steps, and each position's
-abbrev pub positions_left : ModuleState → ℕ
-positions_left state.Pausing = 1
-positions_left _ = 2
-
-abbrev pub floors_to_go : Net → Phase → ℕ
-floors_to_go net phase.Pausing = positions_left net.modules.miniport
-floors_to_go net _ = 0
-
-abbrev pub pause_to_go : Net → ℕ
-pause_to_go net = steps_to_go net + floors_to_go net net.phase

@@ -1,5 +1,5 @@
 -- What the turns of a run do to a book.
-use Rattle.std.proofs.Common.{◌≡◌, ◌≢◌, ◌<◌, ℕ, List, [], ◌∷◌, ◌++◌, length, refl, ap, sym, subst, ◌∙◌, inl, inr, ◌⊎◌}
+use Rattle.std.proofs.Common.{◌≡◌, ◌≢◌, ◌<◌, ◌≤◌, ◌+◌, ℕ, arith, false, List, [], ◌∷◌, ◌++◌, length, refl, ap, sym, subst, ◌∙◌, inl, inr, ◌⊎◌}
 use Rattle.ndis_base.specs.declared.Phase.{Phase}
 use Rattle.ndis_base.specs.declared.Phase.TheVariants as phase
 use Rattle.journal_types.specs.declared.Asked.{Asked}
@@ -9,14 +9,22 @@ use Rattle.journal_types.specs.declared.Reply.{Reply}
 use Rattle.journal_types.specs.declared.Reply.TheVariants as reply
 use Rattle.journal_types.specs.declared.Refusal.TheVariants as refusal
 use Rattle.journal_types.specs.declared.Turn.{Turn}
-use Rattle.stack_rules.specs.Net.{Net, start, seen, after_rows, after_turn, after_turns}
+use Rattle.stack_rules.specs.Net.{Net, Modules, start, seen, after_rows, after_turn, after_turns}
+use Rattle.journal_types.specs.declared.StackHead.{StackHead}
+use Rattle.stack_rules.specs.Tests.{phase_is_running}
+use Rattle.stack_rules.specs.Pauses.{first_unpaused}
 use Rattle.stack_rules.specs.Sound.{Next}
-use Rattle.first_form.specs.First.{IsFirst, IsFirstEvent, steps_to_go, pause_to_go}
-use Rattle.first_form.proofs.Progress.{PumpGives, pump_gives, DrainGives, drain_gives, transmit_gives, send_gives, PauseGives, pause_gives, LeadsTo, restart_gives_next, restart_gives_running, begin_gives, initialize_either, halt_gives}
+use Rattle.stack_rules.specs.Work.{bottom, work}
+use Rattle.work_laws.specs.Bounds.{is_pause}
+use Rattle.work_laws.proofs.Additions.{each_pause}
+use Rattle.work_laws.proofs.Journals.{sound_pump, sound_still_drain}
+use Rattle.first_form.specs.First.{IsFirst, IsFirstEvent}
+use Rattle.first_form.proofs.Moves.{AdvancesTo}
+use Rattle.first_form.proofs.Progress.{pump_gives, DrainGives, drain_gives, transmit_gives, send_gives, PauseGives, pause_gives, LeadsTo, restart_gives_next, restart_gives_running, begin_gives, initialize_either, halt_gives}
 use Rattle.stack_core.specs.Core.{Follows}
 use Rattle.stack_book.specs.Views.{BookView}
 use Rattle.stack_book.specs.Turns.{AddsTurn, asked_turn}
-use Rattle.stack_runs.specs.Runs.{IsBetween, IsAt, Runs, MayCall, Turned, IsWaiting}
+use Rattle.stack_runs.specs.Runs.{IsBetween, IsAt, Runs, MayCall, Turned, IsWaiting, pause_to_go}
 
 turns_more : (net : Net) (turns : List Turn) (turn : Turn) → after_turns net (turns ++ turn ∷ []) ≡ after_turn (after_turns net turns) turn
 turns_more net [] turn = refl
@@ -36,6 +44,9 @@ turned old new asked r f idle a f' =
       reply = refl;
       first = subst IsFirst (sym before) f.first;
       next = subst (λ n. Next n turn) (sym before) a.next;
+      sound = f.sound;
+      bound = subst (λ (h : StackHead). 0 < length h.bindings) (ap (λ (n : Net). n.head) (sym before) ∙ f.head_is) f.first.head.some;
+      before = before;
       net = after ∙ longer ∙ turns_more (start old.core.head) old.core.turns turn ∙ ap (λ n. after_turn n turn) (sym before);
       head = a.head;
     }
@@ -50,18 +61,32 @@ then_runs a b c p q x y = record { head = y.head ∙ x.head; now = y.now }
 pub pump_runs : (old new : BookView) (r : Reply) → IsBetween new → Turned old new event.Pump r → Runs old new old.core.tray.net.phase
 pump_runs old new r b t = at_phase old new event.Pump r _ b t (pump_gives old.core.tray.net t.turn t.first t.next t.event).phase
 
-pub pump_fewer : (old new : BookView) (r : Reply) → Turned old new event.Pump r → r ≡ reply.Moved → steps_to_go new.core.tray.net < steps_to_go old.core.tray.net
-pump_fewer old new r t m =
-    let g : PumpGives old.core.tray.net t.turn = pump_gives old.core.tray.net t.turn t.first t.next t.event in
-    subst (λ (n : Net). steps_to_go n < steps_to_go old.core.tray.net) (sym t.net) (g.moved (t.reply ∙ m)).steps
+-- a turn that lowers the work of the journal lowers that of the state
+lowers : (old new : BookView) (e : Event) (r : Reply) → (t : Turned old new e r) → work (after_turn (seen old.core.head old.core.turns) t.turn) + 1 ≤ work (seen old.core.head old.core.turns) → work new.core.tray.net < work old.core.tray.net
+lowers old new e r t law =
+    let less : work (after_turn old.core.tray.net t.turn) + 1 ≤ work old.core.tray.net = subst (λ (n : Net). work (after_turn n t.turn) + 1 ≤ work n) (sym t.before) law in
+    subst (λ (n : Net). work n < work old.core.tray.net) (sym t.net) (omega (arith, less))
+
+next_seen : (old new : BookView) (e : Event) (r : Reply) → (t : Turned old new e r) → Next (seen old.core.head old.core.turns) t.turn
+next_seen old new e r t = subst (λ (n : Net). Next n t.turn) t.before t.next
+
+pub pump_fewer : (old new : BookView) (r : Reply) → Turned old new event.Pump r → r ≡ reply.Moved → work new.core.tray.net < work old.core.tray.net
+pump_fewer old new r t m = lowers old new event.Pump r t (sound_pump old.core.head old.core.turns t.turn t.sound t.bound (next_seen old new event.Pump r t) t.event (t.reply ∙ m))
 
 pub drain_runs : (old new : BookView) (r : Reply) → IsAt old phase.Pausing → IsBetween new → Turned old new event.Drain r → Runs old new phase.Pausing
 drain_runs old new r at b t = at_phase old new event.Drain r phase.Pausing b t ((drain_gives old.core.tray.net t.turn t.first t.next t.event).phase ∙ at.phase)
 
-pub drain_fewer : (old new : BookView) (r : Reply) → 0 < length old.core.tray.net.things → Turned old new event.Drain r → pause_to_go new.core.tray.net < pause_to_go old.core.tray.net
-drain_fewer old new r some t =
+pub drain_fewer : (old new : BookView) (r : Reply) → IsAt old phase.Pausing → 0 < length old.core.tray.net.things → Turned old new event.Drain r → pause_to_go new.core.tray.net < pause_to_go old.core.tray.net
+drain_fewer old new r at some t =
     let g : DrainGives old.core.tray.net t.turn = drain_gives old.core.tray.net t.turn t.first t.next t.event in
-    subst (λ (n : Net). pause_to_go n < pause_to_go old.core.tray.net) (sym t.net) (g.moved (g.filled some)).pause
+    let moved : t.turn.reply ≡ reply.Moved = g.filled some in
+    let to : AdvancesTo old.core.tray.net (after_turn old.core.tray.net t.turn) = g.moved moved in
+    let same : first_unpaused new.core.tray.net ≡ first_unpaused old.core.tray.net = ap first_unpaused t.net ∙ to.unpaused in
+    let order : length new.core.tray.net.modules.order ≡ length old.core.tray.net.modules.order = ap (λ (n : Net). length n.modules.order) t.net ∙ ap (λ (ms : Modules). length ms.order) to.modules in
+    let still : phase_is_running (seen old.core.head old.core.turns).phase ≡ false = ap (λ (n : Net). phase_is_running n.phase) (sym t.before) ∙ ap phase_is_running at.phase in
+    let less : work new.core.tray.net < work old.core.tray.net =
+    lowers old new event.Drain r t (sound_still_drain old.core.head old.core.turns t.turn t.sound t.bound still (next_seen old new event.Drain r t) t.event moved) in
+    omega (arith, less, same, order)
 
 pause_of : (old new : BookView) (r : Reply) → IsAt old phase.Pausing → (t : Turned old new event.PauseNext r) → PauseGives old.core.tray.net t.turn
 pause_of old new r at t = pause_gives old.core.tray.net t.turn t.first t.next t.event at.phase
@@ -101,9 +126,17 @@ pause_goes_on old new r at b t no_wait no_pause = by_answer (pause_of old new r 
     by_answer : (t.turn.reply ≡ reply.Next) ⊎ ((t.turn.reply ≡ reply.Paused) ⊎ ((n : ℕ) × (t.turn.reply ≡ reply.Waiting n))) → GoesOn old new
     by_answer (inl is) =
         let g = (pause_of old new r at t).next is in
+        let after : Net = after_turn old.core.tray.net t.turn in
+        let law : work (after_turn (seen old.core.head old.core.turns) t.turn) ≤ work (seen old.core.head old.core.turns) + 0 =
+        each_pause old.core.head old.core.turns t.turn t.sound (next_seen old new event.PauseNext r t) (ap is_pause t.event) in
+        let no_more : work after ≤ work old.core.tray.net + 0 = subst (λ (n : Net). work (after_turn n t.turn) ≤ work n + 0) (sym t.before) law in
+        let before_zero : first_unpaused old.core.tray.net ≡ 0 = g.1.0 in
+        let after_one : first_unpaused after ≡ 1 = g.1.1 in
+        let low : length after.modules.order ≡ 0 = ap length (pause_of old new r at t).first.order in
+        let fewer : pause_to_go after < pause_to_go old.core.tray.net = omega (arith, no_more, before_zero, after_one, low) in
         record {
           runs = at_phase old new event.PauseNext r phase.Pausing b t g.0;
-          fewer = subst (λ (n : Net). pause_to_go n < pause_to_go old.core.tray.net) (sym t.net) g.1;
+          fewer = subst (λ (n : Net). pause_to_go n < pause_to_go old.core.tray.net) (sym t.net) fewer;
         }
     by_answer (inr (inl is)) = absurd (no_pause (sym t.reply ∙ is))
     by_answer (inr (inr w)) = absurd (no_wait (subst IsWaiting (sym (sym t.reply ∙ w.1)) tt))

@@ -6,13 +6,14 @@ ghost use Rattle.journal_types.specs.declared.Event.{Event};
 ghost use Rattle.journal_types.specs.declared.Reply.{Reply};
 ghost use Rattle.journal_types.specs.declared.Refusal.{Refusal};
 ghost use Rattle.stack_rules.specs.Conditions.{may_ask};
-ghost use Rattle.first_form.specs.First.{IsFirstEvent, steps_to_go, pause_to_go};
+ghost use Rattle.first_form.specs.First.{IsFirstEvent};
+ghost use Rattle.stack_rules.specs.Work.{work};
 ghost use Rattle.stack_book.specs.Stands.{Same};
 ghost use Rattle.stack_book.specs.Turns.{AddsTurn};
 ghost use Rattle.promise_rules.specs.declared.Opening.TheVariants.{Initialising, Opened};
 ghost use Rattle.promise_rules.specs.declared.Ending.TheVariants as ending;
 ghost use Rattle.stack_runs.specs.Adds.{Adds, IsOne, ArePumps, IsCall, OpensTo, EndsTo, is_refused, pump_reply, pause_leads};
-ghost use Rattle.stack_runs.specs.Runs.{IsBetween, IsAt, Runs, MayCall, Turned, IsWaiting};
+ghost use Rattle.stack_runs.specs.Runs.{IsBetween, IsAt, Runs, MayCall, Turned, IsWaiting, pause_to_go};
 
 use journal_types::{Asked, Event, Reply};
 use ndis_base::{LaneNo, OutOfMemory, Phase, Who};
@@ -83,7 +84,7 @@ fn pump_once(book: &mut Book, alloc: Global, who: Who) -> Result<bool, OutOfMemo
     requires between { IsBetween (⟦<Book as Shown>⟧.shown book.old) }
     ensures between { IsBetween (⟦<Book as Shown>⟧.shown book.new) }
     ensures runs { OnOk result (Runs (⟦<Book as Shown>⟧.shown book.old) (⟦<Book as Shown>⟧.shown book.new) (⟦<Book as Shown>⟧.shown book.old).core.tray.net.phase) }
-    ensures fewer { IfOk result (λ moved. moved ≡ true → steps_to_go (⟦<Book as Shown>⟧.shown book.new).core.tray.net < steps_to_go (⟦<Book as Shown>⟧.shown book.old).core.tray.net) }
+    ensures fewer { IfOk result (λ moved. moved ≡ true → work (⟦<Book as Shown>⟧.shown book.new).core.tray.net < work (⟦<Book as Shown>⟧.shown book.old).core.tray.net) }
     ensures added { IfOk result (λ moved. Adds (IsOne who Event.Pump (pump_reply moved)) (⟦<Book as Shown>⟧.shown book.old) (⟦<Book as Shown>⟧.shown book.new)) }
 {
     let reply = ask(book, alloc, who, Event::Pump)?;

@@ -1,9 +1,8 @@
 use Rattle.std.proofs.Common.{◌≡◌, map}
 use Rattle.ndis_base.specs.declared.Phase.TheVariants as phase
-use Rattle.first_form.specs.First.{pause_to_go}
 use Rattle.promise_rules.specs.declared.Ending.TheVariants as ending
 use Rattle.stack_runs.specs.Adds.{Adds, EndsTo}
-use Rattle.stack_runs.specs.Runs.{IsAt}
+use Rattle.stack_runs.specs.Runs.{IsAt, pause_to_go}
 use Rattle.stack_runs.proofs.pause_all.Given as goal
 
 abbrev pub invariant-loop : goal.invariant-loop

@@ -1,5 +1,5 @@
 use Rattle.std.proofs.Common.{◌≡◌, map}
-use Rattle.first_form.specs.First.{steps_to_go}
+use Rattle.stack_rules.specs.Work.{work}
 use Rattle.stack_runs.specs.Adds.{Adds, AreMoves}
 use Rattle.stack_runs.specs.Runs.{IsBetween}
 use Rattle.stack_runs.proofs.pump_all.Given as goal
@@ -31,4 +31,4 @@ invariant-loop g l = record {
 }
 
 abbrev pub decreases-loop : goal.decreases-loop
-decreases-loop g l = steps_to_go l.book.core.tray.net
+decreases-loop g l = work l.book.core.tray.net
