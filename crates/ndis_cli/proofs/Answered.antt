@@ -16,7 +16,8 @@ use Rattle.script_forms.specs.Script.{Says, too_long, not_json, json, script_in}
 use Rattle.script_file.specs.Reads.{ReadsAs}
 use Rattle.script_runs.specs.Built.{is_built, IsRun}
 use Rattle.ndis_cli.specs.declared.top.Status.TheVariants as status
-use Rattle.ndis_cli.specs.Answers.{IsFaulty, no_script, not_built, IsFine, Wrote}
+use Rattle.stack_book.specs.Parts.{PartsView}
+use Rattle.ndis_cli.specs.Answers.{IsFaulty, no_script, not_built, IsFine, LacksFirst, LacksParts, Wrote}
 
 -- what was read to the end of input is all that was left
 all-read : (P : List ℕ → Type 0) (old new : Option (List ℕ)) (bytes : List ℕ) → old ≡ before bytes new → IfSome new (λ rest. rest ≡ []) → P bytes → IfSome old P
@@ -88,6 +89,25 @@ not-unbuilt old new bytes text script is end same reads un f =
     let said : Says bytes (Ok script) = subst (λ t. ReadsAs t (Ok script)) same reads in
     let ok : f.script ≡ script = same-ok f.script script (one bytes (Ok f.script) (Ok script) (fine old new bytes is end f) said) in
     differ (sym f.built ∙ ap is_built ok ∙ un)
+
+-- a script that can be run is the one that was read
+pub same-script : (old new : Option (List ℕ)) (bytes text : List ℕ) (script : Script) → old ≡ before bytes new → IfSome new (λ rest. rest ≡ []) → text ≡ bytes → ReadsAs text (Ok script) → (f : IsFine old) → f.script ≡ script
+same-script old new bytes text script is end same reads f =
+    same-ok f.script script (one bytes (Ok f.script) (Ok script) (fine old new bytes is end f) (subst (λ t. ReadsAs t (Ok script)) same reads))
+
+same-stack : (n k : ℕ) → status.NoParts n ≡ status.NoParts k → n ≡ k
+same-stack n k e = cc
+
+-- drivers are wanting for the script that was read
+pub lacks : (old new : Option (List ℕ)) (bytes text : List ℕ) (script : Script) (parts : List PartsView) (k : ℕ) → old ≡ before bytes new → IfSome new (λ rest. rest ≡ []) → text ≡ bytes → ReadsAs text (Ok script)
+    → is_built script ≡ true → status.NoParts 0 ≡ status.NoParts k → LacksFirst script parts → LacksParts old parts k
+lacks old new bytes text script parts k is end same reads built e few = record {
+  script = script;
+  is = all-read (λ b. Says b (Ok script)) old new bytes is end (subst (λ t. ReadsAs t (Ok script)) same reads);
+  built = built;
+  only = sym (same-stack 0 k e);
+  lacks = few;
+}
 
 -- a report that was begun is of the script's run
 pub wrote : (old new held held' : Option (List ℕ)) (bytes text : List ℕ) (script : Script) (journals : List Written) (journal : Written) → journals ≡ journal ∷ [] → old ≡ before bytes new → IfSome new (λ rest. rest ≡ []) → text ≡ bytes → ReadsAs text (Ok script)

@@ -10,9 +10,11 @@ use Rattle.script_types.specs.declared.ScriptCause.{ScriptCause}
 use Rattle.script_types.specs.declared.ScriptCause.TheVariants as cause
 use Rattle.script_types.specs.declared.ScriptFault.TheVariants as fault
 use Rattle.script_forms.specs.Script.{Says}
+use Rattle.stack_book.specs.Parts.{PartsView}
 use Rattle.script_runs.specs.Built.{is_built, IsRun}
+use Rattle.script_runs.specs.Drivers.{LacksDrivers, ComeBack}
 use Rattle.ndis_cli.specs.declared.top.Status.{Status}
-use Rattle.ndis_cli.specs.declared.top.Status.TheVariants.{Done, Usage, BadScript, ReadFault, Memory, NoParts}
+use Rattle.ndis_cli.specs.declared.top.Status.TheVariants.{Done, Usage, BadScript, ReadFault, WriteFault, Memory, NoParts}
 
 -- the bytes are the text of this script, where they are told
 abbrev pub IsOf : Option (List ℕ) → Script → Type 0
@@ -45,12 +47,29 @@ pub record IsFine (left : Option (List ℕ)) : Type 0 where
   pub is : Says bytes (Ok script)
   pub built : is_built script ≡ true
 
--- the bytes are a script that can be run, and the stack is its only one
-pub record LacksParts (left : Option (List ℕ)) (stack : ℕ) : Type 0 where
+-- no drivers were handed in, or those for the first stack are too few
+abbrev pub LacksFirst : Script → List PartsView → Type 0
+LacksFirst script [] = Unit {0}
+LacksFirst script (first ∷ more) = LacksDrivers script.stacks first
+
+-- the bytes are a script that can be run, and the stack is its only one, for which drivers are wanting
+pub record LacksParts (left : Option (List ℕ)) (parts : List PartsView) (stack : ℕ) : Type 0 where
   pub script : Script
   pub is : IsOf left script
   pub built : is_built script ≡ true
   pub only : stack ≡ 0
+  pub lacks : LacksFirst script parts
+
+-- the bytes are a script that was run over the first of the parts, whose drivers came back
+pub record AreBack (left : Option (List ℕ)) (parts parts' : List PartsView) : Type 0 where
+  pub script : Script
+  pub is : IsOf left script
+  pub first : PartsView
+  pub more : List PartsView
+  pub handed : parts ≡ first ∷ more
+  pub first' : PartsView
+  pub returned : parts' ≡ first' ∷ more
+  pub back : ComeBack script.stacks first first'
 
 -- the call ended before its run
 abbrev pub is_early : Status → Bool
@@ -60,8 +79,20 @@ is_early ReadFault = true
 is_early (NoParts stack) = true
 is_early _ = false
 
-abbrev pub IsNoFault : Status → Type 0
-IsNoFault Done = Unit {0}
-IsNoFault Memory = Unit {0}
-IsNoFault (NoParts stack) = Unit {0}
-IsNoFault _ = ⊥
+-- a script was run, and its report was begun
+abbrev pub is_run : Status → Bool
+is_run Done = true
+is_run WriteFault = true
+is_run _ = false
+
+-- done, or memory ran out
+abbrev pub IsDone : Status → Type 0
+IsDone Done = Unit {0}
+IsDone Memory = Unit {0}
+IsDone _ = ⊥
+
+-- drivers are wanting for the first stack, or memory ran out
+abbrev pub IsWanting : Status → Type 0
+IsWanting (NoParts stack) = stack ≡ 0
+IsWanting Memory = Unit {0}
+IsWanting _ = ⊥

@@ -1,12 +1,13 @@
 //! The top call.
-ghost use Rattle.std.specs.Prelude.{◌≡◌, ◌≢◌, ◌↔◌, ◌⊎◌, ℕ, false, All, IfOk, IfSome, IsTrue, true, map, string_bytes};
+ghost use Rattle.std.specs.Prelude.{◌≡◌, ◌≢◌, ◌↔◌, ◌⊎◌, ℕ, false, All, OnOk, IfOk, IfErr, IfSome, IsTrue, true, map, string_bytes};
 ghost use Rattle.outside_io.specs.Edges.{Rose, AddsPrefix};
 ghost use Rattle.script_types.specs.declared.ScriptPlace.{ScriptPlace};
 ghost use Rattle.script_types.specs.declared.ScriptCause.{ScriptCause};
-ghost use Rattle.stack_book.specs.Open.{IsHaltedDriver};
+ghost use Rattle.stack_book.specs.Open.{AreIdle};
 ghost use Rattle.script_runs.specs.Built.{is_built, IsRun};
+ghost use Rattle.script_runs.specs.Drivers.{LacksDrivers, ComeBack};
 ghost use Rattle.ndis_cli.specs.Words as form;
-ghost use Rattle.ndis_cli.specs.Answers.{IsFaulty, Adds, Wrote, IsFine, LacksParts, is_early, IsNoFault};
+ghost use Rattle.ndis_cli.specs.Answers.{IsFaulty, Adds, Wrote, IsFine, LacksFirst, LacksParts, AreBack, is_early, is_run, IsDone, IsWanting};
 
 use crate::words::is_form;
 use journal_types::Journal;
@@ -15,9 +16,8 @@ use run_report::{ReportFault, write_report};
 use script_file::read_script;
 use script_runs::{RunFault, is_built, run_script};
 use script_types::{Script, ScriptCause, ScriptFault, ScriptPlace};
-use stack_book::calls::close_all;
 use stack_book::parts::Handed;
-use stack_book::{OpenFault, StackParts};
+use stack_book::StackParts;
 use std::alloc::Global;
 
 /// The most bytes that a script has.
@@ -39,7 +39,7 @@ pub enum Status {
     ReadFault,
     /// A write failed. What was written is a prefix of the report.
     WriteFault,
-    /// Memory ran out. The drivers that were moved into the stack are gone.
+    /// Memory ran out. Drivers that were moved into the stack may be gone.
     Memory,
     /// There are too few drivers of the kinds that this stack names, the first such.
     NoParts {
@@ -48,7 +48,8 @@ pub enum Status {
 }
 
 /// Reads a script, opens its stack over the first of the parts, makes its calls, ends the stack, and
-/// writes the report. The drivers come back to where they were after every answer but `Memory`.
+/// writes the report. The drivers come back to where they were after every answer but `Memory`, those
+/// of the stack first; after an answer before the run they are as they were.
 pub fn ndis_serial<S: Source, K: Sink>(
     alloc: Global,
     words: &[String],
@@ -56,14 +57,14 @@ pub fn ndis_serial<S: Source, K: Sink>(
     sink: &mut K,
     parts: &mut Vec<StackParts>,
 ) -> Status
-    requires idle { All (λ p. All IsHaltedDriver (⟦<StackParts as Handed>⟧.handed p).miniports) parts.old.items }
+    requires idle { All (λ p. AreIdle (⟦<StackParts as Handed>⟧.handed p)) parts.old.items }
     // Usage, exactly where the words are no form; then nothing is read.
     ensures usage { (result ≡ Status.Usage) ↔ (form.is_form (map (λ w. string_bytes w) words.now) ≡ false) }
     ensures unread { result ≡ Status.Usage → source.new ≡ source.old }
     // A script that is faulty.
     ensures bad { (at : ScriptPlace) (why : ScriptCause) → result ≡ Status.BadScript at why → IfSome (S.left source.old) (λ bytes. IsFaulty bytes at why) }
     // Drivers are wanting for the only stack of a script that can be run.
-    ensures no_parts { (k : ℕ) → result ≡ Status.NoParts k → LacksParts (S.left source.old) k }
+    ensures no_parts { (k : ℕ) → result ≡ Status.NoParts k → LacksParts (S.left source.old) (map (λ p. ⟦<StackParts as Handed>⟧.handed p) parts.old.items) k }
     // Faults of the outside.
     ensures read_fault { result ≡ Status.ReadFault → Rose (S.faults source.old) (S.faults source.new) }
     ensures write_fault { result ≡ Status.WriteFault → Rose (K.faults sink.old) (K.faults sink.new) }
@@ -71,11 +72,16 @@ pub fn ndis_serial<S: Source, K: Sink>(
     ensures done { result ≡ Status.Done → Wrote Adds (S.left source.old) (K.holds sink.old) (K.holds sink.new) }
     ensures cut { result ≡ Status.WriteFault → Wrote AddsPrefix (S.left source.old) (K.holds sink.old) (K.holds sink.new) }
     ensures memory { result ≡ Status.Memory → (K.holds sink.new ≡ K.holds sink.old) ⊎ Wrote AddsPrefix (S.left source.old) (K.holds sink.old) (K.holds sink.new) }
-    // Where nothing was run nothing is written.
+    // Where nothing was run nothing is written, and the drivers are as they were.
     ensures silent { IsTrue (is_early result) → K.holds sink.new ≡ K.holds sink.old }
-    ensures kept { (result ≡ Status.Usage) ⊎ ((at : ScriptPlace) × (why : ScriptCause) × (result ≡ Status.BadScript at why)) → parts.new.items ≡ parts.old.items }
-    // Where nothing is amiss, it is done, unless memory or drivers run out.
-    ensures complete { form.is_form (map (λ w. string_bytes w) words.now) ≢ false → IsFine (S.left source.old) → ¬ Rose (S.faults source.old) (S.faults source.new) → ¬ Rose (K.faults sink.old) (K.faults sink.new) → IsNoFault result }
+    ensures kept { IsTrue (is_early result) → parts.new.items ≡ parts.old.items }
+    // After a run the drivers of its stack come back first; whatever comes back may be handed in again.
+    ensures back { IsTrue (is_run result) → AreBack (S.left source.old) (map (λ p. ⟦<StackParts as Handed>⟧.handed p) parts.old.items) (map (λ p. ⟦<StackParts as Handed>⟧.handed p) parts.new.items) }
+    ensures idle { All (λ p. AreIdle (⟦<StackParts as Handed>⟧.handed p)) parts.new.items }
+    ensures shelves { map (λ p. p.shelf) parts.new.items ≡ map (λ p. p.shelf) parts.old.items }
+    // Where nothing is amiss it is done, or drivers are wanting, unless memory runs out.
+    ensures complete { form.is_form (map (λ w. string_bytes w) words.now) ≢ false → (fine : IsFine (S.left source.old)) → ¬ LacksFirst fine.script (map (λ p. ⟦<StackParts as Handed>⟧.handed p) parts.old.items) → ¬ Rose (S.faults source.old) (S.faults source.new) → ¬ Rose (K.faults sink.old) (K.faults sink.new) → IsDone result }
+    ensures lacking { form.is_form (map (λ w. string_bytes w) words.now) ≢ false → (fine : IsFine (S.left source.old)) → LacksFirst fine.script (map (λ p. ⟦<StackParts as Handed>⟧.handed p) parts.old.items) → ¬ Rose (S.faults source.old) (S.faults source.new) → IsWanting result }
 {
     if !is_form(words) {
         return Status::Usage;
@@ -107,8 +113,8 @@ pub fn ndis_serial<S: Source, K: Sink>(
     }
     let journal = match run_over(alloc, &script, &mut parts[0]) {
         Ok(journal) => journal,
-        Err(OpenFault::NoParts) => return Status::NoParts { stack: 0 },
-        Err(OpenFault::Memory) => return Status::Memory,
+        Err(RunFault::NoParts) => return Status::NoParts { stack: 0 },
+        Err(RunFault::Memory | RunFault::Lost) => return Status::Memory,
     };
     match write_report(alloc, sink, std::slice::from_ref(&journal), &[]) {
         Ok(()) => Status::Done,
@@ -118,28 +124,28 @@ pub fn ndis_serial<S: Source, K: Sink>(
 }
 
 /// Runs a script over a stack's drivers, which come back to where they were, unless they are lost for
-/// want of memory: then none stand there.
-fn run_over(alloc: Global, script: &Script, parts: &mut StackParts) -> Result<Journal, OpenFault>
+/// want of memory: then the others stand there.
+fn run_over(alloc: Global, script: &Script, parts: &mut StackParts) -> Result<Journal, RunFault>
     requires built { is_built script.now ≡ true }
-    requires halted { All IsHaltedDriver (⟦<StackParts as Handed>⟧.handed parts.old).miniports }
-    ensures { IfOk result (λ journal. IsRun script.now journal.head journal.turns) }
+    requires idle { AreIdle (⟦<StackParts as Handed>⟧.handed parts.old) }
+    ensures run { IfOk result (λ journal. IsRun script.now journal.head journal.turns) }
+    ensures back { OnOk result (ComeBack script.now.stacks (⟦<StackParts as Handed>⟧.handed parts.old) (⟦<StackParts as Handed>⟧.handed parts.new)) }
+    ensures enough { OnOk result (¬ LacksDrivers script.now.stacks (⟦<StackParts as Handed>⟧.handed parts.old)) }
+    ensures lacks { IfErr result (λ e. e ≡ RunFault.NoParts → LacksDrivers script.now.stacks (⟦<StackParts as Handed>⟧.handed parts.old)) }
+    ensures unchanged { IfErr result (λ e. e ≢ RunFault.Lost → parts.new ≡ parts.old) }
+    ensures idle { AreIdle (⟦<StackParts as Handed>⟧.handed parts.new) }
+    ensures shelf { parts.new.shelf ≡ parts.old.shelf }
 {
-    let mut first = std::mem::replace(parts, no_parts(alloc));
-    close_all(&mut first.protocols);
+    let first = std::mem::replace(parts, no_parts(alloc));
     match run_script(alloc, script, first) {
         Ok((first, journal)) => {
             put_back(parts, first);
             Ok(journal)
         }
-        Err(RunFault::NoParts(first)) => {
+        Err((first, fault)) => {
             put_back(parts, first);
-            Err(OpenFault::NoParts)
+            Err(fault)
         }
-        Err(RunFault::Memory(first)) => {
-            put_back(parts, first);
-            Err(OpenFault::Memory)
-        }
-        Err(RunFault::Lost) => Err(OpenFault::Memory),
     }
 }
 

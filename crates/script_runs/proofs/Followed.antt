@@ -313,7 +313,7 @@ pub makes : (c : Call) (e : Event) (x y : BookView) → event_of c.kind ≡ Some
 makes c e x y is p = record { more = p.more; turns = p.turns; drivers = p.drivers; kind = record { event = e; asked = is; is = p.kind } }
 
 -- from no turn on, a run is the journal
-whole_is : (head : StackHead) (calls : List Call) (a b : BookView) → a.core.turns ≡ [] → (w : Ran head calls a b) → b.core.turns ≡ w.opening ++ (w.middle ++ w.last)
+pub whole_is : (head : StackHead) (calls : List Call) (a b : BookView) → a.core.turns ≡ [] → (w : Ran head calls a b) → b.core.turns ≡ w.opening ++ (w.middle ++ w.last)
 whole_is head calls a b none w = w.split ∙ ap (λ (ts : List Turn). ts ++ (w.opening ++ (w.middle ++ w.last))) none
 
 pub followed : (stacks : List StackSetup) (head : StackHead) (calls : List Call) (a b : BookView) → list_all (form.is_built_call head) calls ≡ true → a.core.turns ≡ [] → Ran head calls a b → (lane : LaneNo) → IsFollowed stacks lane calls (b.core.turns ∷ [])

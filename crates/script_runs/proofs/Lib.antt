@@ -1,3 +1,4 @@
 pub mod Laws
 pub mod Followed
+pub mod Back
 pub mod Only

@@ -2,6 +2,7 @@ pub mod Did
 pub mod Pools
 pub mod Sends
 pub mod Gives
+pub mod Choice
 pub mod Taken
 pub mod CallLemmas
 pub mod OpenLemmas

@@ -1,16 +1,21 @@
 -- Opening a book.
-use Rattle.std.proofs.Common.{◌≡◌, ℕ, ◌+◌, ◌<◌, List, [], ◌∷◌, ◌++◌, length, map, take, drop, slice_index_or, All, refl, ap, arith}
-use Rattle.std.proofs.lemmas.List.{map-append, take-map, drop-map, take_more}
-use Rattle.std.proofs.lemmas.List.Elements.{All-nil, All-append, All-take, All-drop, All-push}
+use Rattle.std.proofs.Common.{◌≡◌, ℕ, ◌+◌, ◌<◌, List, [], ◌∷◌, ◌++◌, length, map, take, drop, slice_index_or, All, refl, ap, sym, subst, arith}
+use Rattle.std.proofs.lemmas.List.{map-append, take_more}
+use Rattle.std.proofs.lemmas.List.Elements.{All-nil, All-cons, All-append, All-push}
 use Rattle.std.proofs.Math.Seq.{drop-append_seam, take-append_seam}
+use Rattle.ndis_base.specs.declared.Phase.TheVariants as phase
 use Rattle.ndis_base.specs.declared.ProtocolKind.{ProtocolKind}
 use Rattle.journal_types.specs.declared.StackHead.{StackHead}
 use Rattle.buffer_pools.specs.Views.{PoolView, live_count}
 use Rattle.stack_rules.specs.Net.{start}
 use Rattle.held_lists.proofs.Rows.{agrees_start}
+use Rattle.first_form.specs.First.{IsFirst}
+use Rattle.driver_traits.specs.Miniport.{MiniportState}
+use Rattle.driver_traits.specs.Protocol.{ProtocolState}
 use Rattle.stack_book.specs.Views.{BookView}
-use Rattle.stack_book.specs.Stands.{IsClosed, IsShort, ArePoolsOf}
-use Rattle.stack_book.specs.Open.{ArePools, pool_for, IsHaltedDriver, IsOpened}
+use Rattle.stack_book.specs.Stands.{Stands, DriversFit, IsClosed, IsShort, ArePoolsOf}
+use Rattle.stack_book.specs.Open.{ArePools, pool_for, IsHaltedDriver, AreIdle, IsOpened}
+use Rattle.stack_book.proofs.Phases.{none_kept, nothing_halted}
 
 -- one more pool
 pub pools_more : (ps : List PoolView) (ss : List (ProtocolKind × ℕ)) (p : PoolView) (s : ProtocolKind × ℕ) → ArePools ps ss → p ≡ pool_for s → ArePools (ps ++ p ∷ []) (ss ++ s ∷ [])
@@ -39,18 +44,6 @@ pools_empty (p ∷ ps) (s ∷ ss) all = All-append (λ q. live_count q ≡ 0) (p
 pub last_first : {X : Type 0} (xs : List X) (x : X) (n : ℕ) → n ≡ length xs → drop n (xs ++ x ∷ []) ++ take n (xs ++ x ∷ []) ≡ x ∷ xs
 last_first xs x n e = rw (e, drop-append_seam xs (x ∷ []), take-append_seam xs (x ∷ [])) refl
 
--- what holds of all views holds of those that are left
-pub left_over : {X S : Type 0} (P : S → Type 0) (f : X → S) (xs ys : List X) (i : ℕ) → ys ≡ take i xs ++ drop (i + 1) xs → All P (map f xs) → All P (map f ys)
-left_over P f xs ys i e all =
-    rw (e, map-append f (take i xs) (drop (i + 1) xs), ← take-map f i xs, ← drop-map f (i + 1) xs)
-    (All-append P (take i (map f xs)) (drop (i + 1) (map f xs)) (All-take P i (map f xs) all) (All-drop P (i + 1) (map f xs) all))
-
-pub one_more : {X S : Type 0} (P : S → Type 0) (f : X → S) (xs : List X) (x : X) → All P (map f xs) → P (f x) → All P (map f (xs ++ x ∷ []))
-one_more P f xs x all there = rw (map-append f xs (x ∷ [])) (All-push P (map f xs) (f x) all there)
-
-pub both : {X S : Type 0} (P : S → Type 0) (f : X → S) (xs ys : List X) → All P (map f xs) → All P (map f ys) → All P (map f (xs ++ ys))
-both P f xs ys a b = rw (map-append f xs ys) (All-append P (map f xs) (map f ys) a b)
-
 -- a book without turns stands
 pub opened_book : (head : StackHead) (b : BookView) → b.core.head ≡ head → b.core.turns ≡ [] → b.core.tray.net ≡ start head → b.core.tray.rows ≡ [] → b.core.tray.queue ≡ []
     → ArePools b.core.pools head.bindings → IsHaltedDriver b.miniport → All IsClosed b.protocols → length b.protocols ≡ length head.bindings → IsOpened head b
@@ -67,4 +60,19 @@ opened_book head b is turns net rows queue pools halted closed count = record {
     protocols = rw is count;
     drivers = rw net (halted.port, closed);
   };
+}
+
+-- the drivers of a Halted stack are halted or closed, and keep nothing
+pub at_halt : (b : BookView) → Stands b → b.core.tray.net.phase ≡ phase.Halted → IsFirst b.core.tray.net → IsHaltedDriver b.miniport × All IsClosed b.protocols
+at_halt b s halted first =
+    let drivers = subst (DriversFit b) halted s.drivers in
+    let kept : b.miniport.kept ≡ [] = none_kept b.core.tray.net b.core.tray.queue b.miniport.kept b.core.pools s.agrees (nothing_halted b.core.tray.net first halted) in
+    (record { port = drivers.0; kept = kept }, drivers.1)
+
+-- so are all drivers where they stand before idle ones
+pub closed_idle : {X Y : Type 0} (f : X → MiniportState) (h : Y → ProtocolState) (ms ms' : List X) (ps ps' qs : List Y) (m : X) → ms' ≡ m ∷ ms → ps' ≡ qs ++ ps → IsHaltedDriver (f m) → All IsClosed (map h qs)
+    → AreIdle (record { miniports = map f ms; protocols = map h ps }) → AreIdle (record { miniports = map f ms'; protocols = map h ps' })
+closed_idle f h ms ms' ps ps' qs m miniports protocols halted closed idle = record {
+  miniports_halted = subst (λ xs. All IsHaltedDriver (map f xs)) (sym miniports) (All-cons IsHaltedDriver (f m) (map f ms) halted idle.miniports_halted);
+  protocols_closed = subst (λ xs. All IsClosed (map h xs)) (sym protocols) (subst (All IsClosed) (sym (map-append h qs ps)) (All-append IsClosed (map h qs) (map h ps) closed idle.protocols_closed));
 }

@@ -5,4 +5,5 @@ pub mod Calls
 pub mod Events
 pub mod Turns
 pub mod Parts
+pub mod Chosen
 pub mod Open

@@ -23,7 +23,6 @@ ghost use Rattle.stack_book.specs.Events.{FirstIs, IsSetUp, begin_rows};
 ghost use Rattle.stack_book.specs.Drivers.{KeepsDrivers};
 
 use crate::calls::{are_far, close_all, open_from, pause_all, restart_all, sent_at};
-use crate::parts::StackParts;
 use buffer_pools::Label;
 use driver_traits::{MiniportDriver, ProtocolDriver};
 use journal_types::{
@@ -37,13 +36,11 @@ use stack_core::Core;
 use std::alloc::Global;
 
 /// A stack: its drivers, its pools, the lists on their way, and its journal. It has the miniport and
-/// the protocols that its head names, in the order of the bindings; the others that were handed in
-/// stand beside it.
+/// the protocols that its head names, in the order of the bindings.
 pub struct Book {
     pub(crate) core: Core,
     pub(crate) miniport: Box<dyn MiniportDriver>,
     pub(crate) protocols: Vec<Box<dyn ProtocolDriver>>,
-    pub(crate) others: StackParts,
 }
 
 /// Gives a book a view for contracts.

@@ -1,9 +1,10 @@
 //! Opening a stack over its parts, and closing it.
-ghost use Rattle.std.specs.Prelude.{◌≡◌, ◌+◌, ◌≤◌, ◌<◌, ◌++◌, ◌∷◌, [], true, None, Some, IfOk, IfErr, IfSome, All, length, map};
+ghost use Rattle.std.specs.Prelude.{◌≡◌, ◌+◌, ◌≤◌, ◌<◌, ◌++◌, ◌∷◌, ◌↔◌, [], false, None, Some, IfOk, IfErr, length, map, position, count_by};
 ghost use Rattle.std.specs.Vec.{vec_capacity};
 ghost use Rattle.ndis_base.specs.declared.Phase.TheVariants as Phase;
 ghost use Rattle.first_form.specs.First.{IsFirstHead};
-ghost use Rattle.stack_book.specs.Stands.{Stands, IsClosed};
+ghost use Rattle.stack_book.specs.Stands.{Stands};
+ghost use Rattle.stack_book.specs.Chosen.{is_miniport, is_protocol, is_for, LacksProtocols, Lacks, Chooses, Takes};
 ghost use Rattle.stack_book.specs.Open.{ArePools, AreIdle, IsOpened};
 
 use crate::book::{Book, Shown};
@@ -15,12 +16,30 @@ use ndis_base::{MiniportKind, OutOfMemory, ProtocolKind};
 use stack_core::{Core, MAX_FRAME};
 use std::alloc::{AllocError, Global};
 
+fn is_miniport(miniport: &Box<dyn MiniportDriver>, kind: MiniportKind) -> bool
+    ensures { result ≡ is_miniport kind (state miniport.now) }
+{
+    miniport.kind() == kind
+}
+
+fn is_protocol(protocol: &Box<dyn ProtocolDriver>, kind: ProtocolKind) -> bool
+    ensures { result ≡ is_protocol kind (state protocol.now) }
+{
+    protocol.kind() == kind
+}
+
+fn is_for(setup: &(ProtocolKind, usize), kind: ProtocolKind) -> bool
+    ensures { result ≡ is_for kind setup.now }
+{
+    setup.0 == kind
+}
+
 /// The first miniport of a kind.
 fn first_miniport(miniports: &[Box<dyn MiniportDriver>], kind: MiniportKind) -> Option<usize>
-    ensures { IfSome result (λ i. i < length miniports.now) }
+    ensures { result ≡ position (is_miniport kind) (map (λ b. state b) miniports.now) }
 {
     for (i, miniport) in miniports.iter().enumerate() {
-        if miniport.kind() == kind {
+        if is_miniport(miniport, kind) {
             return Some(i);
         }
     }
@@ -29,14 +48,51 @@ fn first_miniport(miniports: &[Box<dyn MiniportDriver>], kind: MiniportKind) -> 
 
 /// The first protocol of a kind.
 fn first_protocol(protocols: &[Box<dyn ProtocolDriver>], kind: ProtocolKind) -> Option<usize>
-    ensures { IfSome result (λ i. i < length protocols.now) }
+    ensures { result ≡ position (is_protocol kind) (map (λ b. state b) protocols.now) }
 {
     for (i, protocol) in protocols.iter().enumerate() {
-        if protocol.kind() == kind {
+        if is_protocol(protocol, kind) {
             return Some(i);
         }
     }
     None
+}
+
+/// How many protocols are of a kind.
+fn count_protocols(protocols: &[Box<dyn ProtocolDriver>], kind: ProtocolKind) -> usize
+    ensures { result ≡ count_by (is_protocol kind) (map (λ b. state b) protocols.now) }
+{
+    let mut count = 0;
+    for protocol in protocols {
+        if is_protocol(protocol, kind) {
+            count += 1;
+        }
+    }
+    count
+}
+
+/// How many bindings are for protocols of a kind.
+fn count_bindings(setups: &[(ProtocolKind, usize)], kind: ProtocolKind) -> usize
+    ensures { result ≡ count_by (is_for kind) setups.now }
+{
+    let mut count = 0;
+    for setup in setups {
+        if is_for(setup, kind) {
+            count += 1;
+        }
+    }
+    count
+}
+
+/// Whether there are as many protocols of each kind as the bindings name.
+fn are_enough(protocols: &[Box<dyn ProtocolDriver>], setups: &[(ProtocolKind, usize)]) -> bool
+    ensures { (result ≡ false) ↔ LacksProtocols setups.now (map (λ b. state b) protocols.now) }
+{
+    let [setup, more @ ..] = setups else {
+        return true;
+    };
+    count_bindings(setups, setup.0) <= count_protocols(protocols, setup.0)
+        && are_enough(protocols, more)
 }
 
 /// The pools of the bindings.
@@ -50,30 +106,28 @@ fn make_pools(alloc: Global, setups: &[(ProtocolKind, usize)]) -> Result<Vec<Lis
     Ok(pools)
 }
 
-/// The protocols of the bindings, taken out of those that were handed in: for each binding the first
-/// of its kind that no earlier binding has. None where there are too few.
+/// Takes the protocols of the bindings out of those that were handed in: for each binding the first of
+/// its kind that no earlier binding has.
 fn take_protocols(
     protocols: &mut Vec<Box<dyn ProtocolDriver>>,
     chosen: &mut Vec<Box<dyn ProtocolDriver>>,
     setups: &[(ProtocolKind, usize)],
-) -> bool
+)
     requires room { length chosen.old.items + length setups.now ≤ vec_capacity chosen.old }
-    requires closed { All IsClosed (map (λ b. state b) protocols.old.items) }
-    requires chosen { All IsClosed (map (λ b. state b) chosen.old.items) }
-    ensures protocols { All IsClosed (map (λ b. state b) protocols.new.items) }
-    ensures chosen { All IsClosed (map (λ b. state b) chosen.new.items) }
-    ensures together { length chosen.new.items + length protocols.new.items ≡ length chosen.old.items + length protocols.old.items }
+    requires enough { ¬ LacksProtocols setups.now (map (λ b. state b) protocols.old.items) }
+    ensures chooses { Chooses setups.now (map (λ b. state b) protocols.old.items) (map (λ b. state b) chosen.old.items) (map (λ b. state b) chosen.new.items) (map (λ b. state b) protocols.new.items) }
+    ensures count { length protocols.new.items + length setups.now ≡ length protocols.old.items }
     ensures capacity { vec_capacity protocols.new ≡ vec_capacity protocols.old }
-    ensures count { result ≡ true → length chosen.new.items ≡ length chosen.old.items + length setups.now }
 {
-    for setup in setups {
-        let Some(i) = first_protocol(protocols.as_slice(), setup.0) else {
-            return false;
-        };
-        let protocol = protocols.remove(i);
-        chosen.push_reserved(protocol);
-    }
-    true
+    let [setup, more @ ..] = setups else {
+        return;
+    };
+    let Some(i) = first_protocol(protocols.as_slice(), setup.0) else {
+        unreachable!()
+    };
+    let protocol = protocols.remove(i);
+    chosen.push_reserved(protocol);
+    take_protocols(protocols, chosen, more);
 }
 
 /// Puts one before the others.
@@ -97,96 +151,97 @@ fn put_first(protocols: &mut Vec<Box<dyn ProtocolDriver>>, chosen: Vec<Box<dyn P
     }
 }
 
-/// The parts with the chosen protocols again, before the others.
-fn give_back(parts: StackParts, chosen: Vec<Box<dyn ProtocolDriver>>) -> StackParts
-    requires room { length parts.protocols.items + length chosen.items ≤ vec_capacity parts.protocols }
-    ensures miniports { result.miniports ≡ parts.miniports }
-    ensures shelf { result.shelf ≡ parts.shelf }
-    ensures protocols { result.protocols.items ≡ chosen.items ++ parts.protocols.items }
-{
-    let mut parts = parts;
-    put_first(&mut parts.protocols, chosen);
-    parts
-}
-
-/// The parts with a miniport and protocols before the others. Where there is no room for them, they are
-/// given up; they were taken from there, and no call takes away the room that they had.
+/// The parts with a miniport and protocols before the others.
 fn join(
     others: StackParts,
     miniport: Box<dyn MiniportDriver>,
     protocols: Vec<Box<dyn ProtocolDriver>>,
 ) -> StackParts
-    ensures miniports { length others.miniports.items < vec_capacity others.miniports → result.miniports.items ≡ miniport ∷ others.miniports.items }
-    ensures protocols { length others.protocols.items + length protocols.items ≤ vec_capacity others.protocols → result.protocols.items ≡ protocols.items ++ others.protocols.items }
+    requires miniports { length others.miniports.items < vec_capacity others.miniports }
+    requires protocols { length others.protocols.items + length protocols.items ≤ vec_capacity others.protocols }
+    ensures miniports { result.miniports.items ≡ miniport ∷ others.miniports.items }
+    ensures protocols { result.protocols.items ≡ protocols.items ++ others.protocols.items }
+    ensures shelf { result.shelf ≡ others.shelf }
 {
     let mut parts = others;
-    if parts.miniports.len() < parts.miniports.capacity() {
-        put_before(&mut parts.miniports, miniport);
-    }
-    if protocols.len() <= parts.protocols.capacity() - parts.protocols.len() {
-        put_first(&mut parts.protocols, protocols);
-    }
+    put_before(&mut parts.miniports, miniport);
+    put_first(&mut parts.protocols, protocols);
     parts
 }
 
 impl Book {
-    /// Opens a stack over its parts. Where the head names more miniports or protocols of a kind than
-    /// were handed in, or memory runs out, the parts come back, those that were chosen first.
+    /// Opens a stack over the drivers that its head takes of those that are handed in, and gives the
+    /// others back beside it. Where the head names more miniports or protocols of a kind than were
+    /// handed in, or memory runs out, all come back as they were.
     pub fn open(
         alloc: Global,
         head: StackHead,
         parts: StackParts,
-    ) -> Result<Book, (StackParts, OpenFault)>
+    ) -> Result<(Book, StackParts), (StackParts, OpenFault)>
         requires form { IsFirstHead head }
         requires idle { AreIdle (⟦<StackParts as Handed>⟧.handed parts) }
-        ensures opened { IfOk result (λ b. IsOpened head (⟦<Book as Shown>⟧.shown b)) }
-        ensures idle { IfErr result (λ e. AreIdle (⟦<StackParts as Handed>⟧.handed e.0)) }
-        ensures miniports { IfErr result (λ e. e.0.miniports ≡ parts.miniports) }
-        ensures count { IfErr result (λ e. length e.0.protocols.items ≡ length parts.protocols.items) }
-        ensures shelf { IfErr result (λ e. e.0.shelf ≡ parts.shelf) }
+        ensures opened { IfOk result (λ r. IsOpened head (⟦<Book as Shown>⟧.shown r.0)) }
+        ensures takes { IfOk result (λ r. Takes head (⟦<StackParts as Handed>⟧.handed parts) (⟦<Book as Shown>⟧.shown r.0).miniport (⟦<Book as Shown>⟧.shown r.0).protocols (⟦<StackParts as Handed>⟧.handed r.1)) }
+        ensures shelf { IfOk result (λ r. r.1.shelf ≡ parts.shelf) }
+        ensures idle { IfOk result (λ r. AreIdle (⟦<StackParts as Handed>⟧.handed r.1)) }
+        ensures enough { IfOk result (λ r. ¬ Lacks head (⟦<StackParts as Handed>⟧.handed parts)) }
+        // The room that `close` asks for.
+        ensures miniport_room { IfOk result (λ r. length r.1.miniports.items < vec_capacity r.1.miniports) }
+        ensures protocol_room { IfOk result (λ r. length r.1.protocols.items + length head.bindings ≤ vec_capacity r.1.protocols) }
+        ensures lacks { IfErr result (λ e. (e.1 ≡ OpenFault.NoParts) ↔ Lacks head (⟦<StackParts as Handed>⟧.handed parts)) }
+        ensures unchanged { IfErr result (λ e. e.0 ≡ parts) }
     {
         let Some(at) = first_miniport(parts.miniports.as_slice(), head.kind) else {
             return Err((parts, OpenFault::NoParts));
         };
         let setups = head.bindings.items();
+        if !are_enough(parts.protocols.as_slice(), setups) {
+            return Err((parts, OpenFault::NoParts));
+        }
         let pools = match make_pools(alloc, setups) {
             Ok(pools) => pools,
             Err(OutOfMemory) => return Err((parts, OpenFault::Memory)),
         };
-        let mut chosen = match Vec::with_capacity(alloc, setups.len()) {
-            Ok(chosen) => chosen,
+        let mut protocols = match Vec::with_capacity(alloc, setups.len()) {
+            Ok(protocols) => protocols,
             Err(AllocError) => return Err((parts, OpenFault::Memory)),
         };
+        let core = match Core::make(alloc, head, pools) {
+            Ok(core) => core,
+            Err(OutOfMemory) => return Err((parts, OpenFault::Memory)),
+        };
         let mut others = parts;
-        if !take_protocols(&mut others.protocols, &mut chosen, setups) {
-            return Err((give_back(others, chosen), OpenFault::NoParts));
-        }
-        match Core::make(alloc, head, pools) {
-            Ok(core) => {
-                let miniport = others.miniports.remove(at);
-                Ok(Book {
-                    core,
-                    miniport,
-                    protocols: chosen,
-                    others,
-                })
-            }
-            Err(OutOfMemory) => Err((give_back(others, chosen), OpenFault::Memory)),
-        }
+        let setups = core.head().bindings.items();
+        take_protocols(&mut others.protocols, &mut protocols, setups);
+        let miniport = others.miniports.remove(at);
+        let book = Book {
+            core,
+            miniport,
+            protocols,
+        };
+        Ok((book, others))
     }
 
-    /// Closes a Halted stack: the drivers that were handed in, those that it had first, and its journal.
-    pub fn close(self) -> (StackParts, Journal)
+    /// Closes a Halted stack: the drivers that were handed in, those that it had first, in the order of
+    /// its head, and its journal.
+    pub fn close(self, others: StackParts) -> (StackParts, Journal)
         requires stands { Stands (⟦<Book as Shown>⟧.shown self) }
         requires halted { (⟦<Book as Shown>⟧.shown self).core.tray.net.phase ≡ Phase.Halted }
+        requires between { (⟦<Book as Shown>⟧.shown self).core.tray.rows ≡ [] }
+        requires miniport_room { length others.miniports.items < vec_capacity others.miniports }
+        requires protocol_room { length others.protocols.items + length (⟦<Book as Shown>⟧.shown self).core.head.bindings ≤ vec_capacity others.protocols }
         ensures head { result.1.head ≡ (⟦<Book as Shown>⟧.shown self).core.head }
         ensures turns { result.1.turns ≡ (⟦<Book as Shown>⟧.shown self).core.turns }
+        ensures miniports { (⟦<StackParts as Handed>⟧.handed result.0).miniports ≡ (⟦<Book as Shown>⟧.shown self).miniport ∷ (⟦<StackParts as Handed>⟧.handed others).miniports }
+        ensures protocols { (⟦<StackParts as Handed>⟧.handed result.0).protocols ≡ (⟦<Book as Shown>⟧.shown self).protocols ++ (⟦<StackParts as Handed>⟧.handed others).protocols }
+        ensures shelf { result.0.shelf ≡ others.shelf }
+        ensures idle { AreIdle (⟦<StackParts as Handed>⟧.handed others) → AreIdle (⟦<StackParts as Handed>⟧.handed result.0) }
     {
+        self.core.facts();
         let Book {
             core,
             miniport,
             protocols,
-            others,
         } = self;
         let parts = join(others, miniport, protocols);
         (parts, core.into_journal())
@@ -198,12 +253,6 @@ impl Book {
             core: _,
             miniport: _,
             protocols: _,
-            others,
         } = self;
-        let StackParts {
-            miniports: _,
-            protocols: _,
-            shelf: _,
-        } = others;
     }
 }
