@@ -8,3 +8,4 @@ pub mod Idle
 pub mod Pausing
 pub mod Serving
 pub mod Served
+pub mod Done
