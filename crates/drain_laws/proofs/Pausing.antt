@@ -1,5 +1,7 @@
 -- A pause that drains while it has to wait comes to its end in a bounded number of turns.
 use Rattle.std.proofs.Common.{◌≡◌, ℕ, suc, ◌+◌, ◌-◌, ◌*◌, ◌≤◌, ◌<◌, ◌==◌, ◌&&◌, Bool, true, false, cond, List, [], ◌∷◌, ◌++◌, refl, arith, ap, sym, subst, ◌∙◌, ◌⊎◌, inl, inr, get_or, length, nat_lt, count_by}
+use Rattle.std.specs.List.{All}
+use Rattle.std.proofs.lemmas.List.Elements.{All-cons, All-nil}
 use Rattle.std.proofs.lemmas.Bool.Decides.{nat_tests}
 use Rattle.ndis_base.specs.declared.ModuleState.{ModuleState}
 use Rattle.ndis_base.specs.declared.ModuleState.TheVariants as state
@@ -38,7 +40,7 @@ use Rattle.state_laws.proofs.Phases.{plain_paused, plain_pausing}
 use Rattle.state_laws.proofs.Events.{state_after, at_phase, plain_same, turn_is, shaped_journal}
 use Rattle.work_laws.specs.Bounds.{is_drain}
 use Rattle.work_laws.specs.InPlace.{EachInPlace}
-use Rattle.drain_laws.specs.Drains.{is_draining, is_moved, drains_some, NoneCrossed, is_waiting, ends_pause, PausesAndDrains, PausesInTime}
+use Rattle.drain_laws.specs.Drains.{is_draining, is_moved, drains_some, NoneCrossed, is_waiting, ends_pause, goes_on, PausesAndDrains, PausesInTime}
 use Rattle.drain_laws.proofs.Reached.{IsReached, reached_front, reached_next, sound_rest, of_reached}
 use Rattle.drain_laws.proofs.Bounded.{MovesOrIdles, drain_moves, is_still, turn_lessens, in_place}
 use Rattle.drain_laws.proofs.Resting.{Rest, none}
@@ -69,9 +71,9 @@ pub record IsOn (net next : Net) (front : ℕ) : Type 0 where
 next_at : (n i : ℕ) → put (put (state_at n (n + 1)) n state.Paused) (n + 1) state.Pausing i ≡ state_at (n + 1) (n + 1 + 1) i
 next_at n i = grind (arith, nat_tests)
 
-goes_on : (net : Net) (front : ℕ) → IsAt net front → front ≤ length net.modules.order →
+next_position : (net : Net) (front : ℕ) → IsAt net front → front ≤ length net.modules.order →
     IsOn net (after_rows net (state_rows (state.Paused ∷ []) (get_or (floors net.modules) front []) ++ state_rows (state.Pausing ∷ []) (get_or (floors net.modules) (front + 1) []))) front
-goes_on net front h l =
+next_position net front h l =
     let mid : Net = after_rows net (state_rows (state.Paused ∷ []) (get_or (floors net.modules) front [])) in
     let t : IsTold net mid (λ states. put states front state.Paused) = told_floor net state.Paused front h.pausing.within h.wired.distinct plain_paused in
     let next_rows : List Row = state_rows (state.Pausing ∷ []) (get_or (low net.modules.order) front []) in
@@ -109,7 +111,19 @@ abbrev Ends : Reply → Type 0
 Ends r = ends_pause r ≡ true
 
 abbrev GoesOn : Net → ℕ → Reply → List Row → Type 0
-GoesOn net front r rows = (is_waiting r ≡ false) × IsOn net (after_rows net rows) front
+GoesOn net front r rows = (r ≡ reply.Next) × IsOn net (after_rows net rows) front
+
+waiting_on : (r : Reply) → is_waiting r ≡ true → goes_on r ≡ true
+waiting_on (reply.Waiting n) h = refl
+waiting_on _ h = cc
+
+ending_on : (r : Reply) → ends_pause r ≡ true → goes_on r ≡ true
+ending_on reply.Paused h = refl
+ending_on _ h = cc
+
+moved_on : (r : Reply) → is_moved r ≡ true → goes_on r ≡ true
+moved_on reply.Moved h = refl
+moved_on _ h = cc
 
 abbrev Steps : Net → ℕ → Reply → List Row → Type 0
 Steps net front r rows = Waits net r rows ⊎ (Ends r ⊎ GoesOn net front r rows)
@@ -134,7 +148,7 @@ steps_at net front h =
     done true t =
         let many = length-floors net.modules in
         let less : front + 1 < length (floors net.modules) = grind (arith, nat_tests) in
-        inr (inr (refl, goes_on net front h (omega (arith, many, less))))
+        inr (inr (refl, next_position net front h (omega (arith, many, less))))
     done false t = inr (inl refl)
 
 pause_steps : (net : Net) (front : ℕ) → IsAt net front → OutcomeSteps net front (pause_outcome net)
@@ -187,7 +201,7 @@ module _ (each : EachInPlace) (head : StackHead) (some : 1 ≤ length head.bindi
   idle_reached : (net : Net) (turn : Turn) → IsReached head net → net.phase ≡ phase.Pausing → NoneCrossed net → Next net turn → turn.event ≡ event.Drain → turn.reply ≡ reply.Idle → lists net.things ≡ []
   idle_reached net turn r =
       subst (λ m. m.phase ≡ phase.Pausing → NoneCrossed m → Next m turn → turn.event ≡ event.Drain → turn.reply ≡ reply.Idle → lists m.things ≡ []) r.is
-      (λ p free n e i. idle_is_empty each head r.turns turn r.sound n some p free e i)
+      (λ p free n e i. ap lists (idle_is_empty each head r.turns turn r.sound n some p free e i).0)
 
   moves : (net : Net) (turn : Turn) → IsReached head net → net.phase ≡ phase.Pausing → NoneCrossed net → Next net turn → turn.event ≡ event.Drain → (lists net.things ≡ [] → ⊥) → drains_some turn ≡ true
   moves net turn r p free n e live = by (drain_moves net n.choice.keeps)
@@ -200,55 +214,71 @@ module _ (each : EachInPlace) (head : StackHead) (some : 1 ≤ length head.bindi
       by (inr i) = absurd (live (idle_reached net turn r p free n e (reply_is ∙ i.0)))
 
   -- what is left of a pause
-  abbrev Left : Bool → Net → ℕ → ℕ → Type 0
-  Left due net front many = many + one_if due ≤ 2 * work net + (length net.modules.order + 2 - front)
+  record Left (due : Bool) (net : Net) (front : ℕ) (more : List Turn) : Type 0 where
+    few : length more + one_if due ≤ 2 * work net + (length net.modules.order + 2 - front)
+    on : All (λ turn. goes_on turn.reply ≡ true) more
 
-  abbrev Rest_left : List Turn → Type 0
-  Rest_left more = (due : Bool) (net : Net) (front : ℕ) → IsReached head net → IsAt net front → NoneCrossed net → (due ≡ true → lists net.things ≡ [] → ⊥) → SoundFrom net more → PausesAndDrains due more → Left due net front (length more)
+  abbrev EachLeft : List Turn → Type 0
+  EachLeft more = (due : Bool) (net : Net) (front : ℕ) → IsReached head net → IsAt net front → NoneCrossed net → (due ≡ true → lists net.things ≡ [] → ⊥) → SoundFrom net more → PausesAndDrains due more → Left due net front more
 
-  some_left : (due : Bool) (net : Net) (front : ℕ) → IsAt net front → Left due net front 0
-  some_left true net front h = let most = h.pausing.within in omega (arith, most)
-  some_left false net front h = omega arith
+  one_more : (turn : Turn) (more : List Turn) → goes_on turn.reply ≡ true → All (λ turn. goes_on turn.reply ≡ true) more → All (λ turn. goes_on turn.reply ≡ true) (turn ∷ more)
+  one_more turn more h all = All-cons (λ (t : Turn). goes_on t.reply ≡ true) turn more h all
 
-  drain_left : (turn : Turn) (more : List Turn) → Rest_left more → (net : Net) (front : ℕ) → IsReached head net → IsAt net front → NoneCrossed net → (lists net.things ≡ [] → ⊥) → SoundFrom net (turn ∷ more) → PausesAndDrains true (turn ∷ more) → Left true net front (length (turn ∷ more))
+  none_left : (due : Bool) (net : Net) (front : ℕ) → IsAt net front → Left due net front []
+  none_left true net front h = let most = h.pausing.within in record { few = omega (arith, most); on = All-nil (λ (t : Turn). goes_on t.reply ≡ true) }
+  none_left false net front h = record { few = omega arith; on = All-nil (λ (t : Turn). goes_on t.reply ≡ true) }
+
+  and_last : (a b : Bool) → (a && b) ≡ true → b ≡ true
+  and_last true b h = h
+  and_last false b h = cc
+
+  drain_left : (turn : Turn) (more : List Turn) → EachLeft more → (net : Net) (front : ℕ) → IsReached head net → IsAt net front → NoneCrossed net → (lists net.things ≡ [] → ⊥) → SoundFrom net (turn ∷ more) → PausesAndDrains true (turn ∷ more) → Left true net front (turn ∷ more)
   drain_left turn more rest net front r h free live s p =
       let still : is_still net.phase ≡ true = ap is_still h.phase in
       let d : IsDrained net (after_turn net turn) front = drained_turn head net front turn r h free s.0 p.0 in
       let most : one_if (drains_some turn) + work (after_turn net turn) ≤ work net = turn_lessens net turn (in_place each head net some r still) still s.0 (ap is_draining p.0) in
-      let one : one_if (drains_some turn) ≡ 1 = ap one_if (moves net turn r h.phase free s.0 p.0 live) in
-      let later : Left false (after_turn net turn) front (length more) = rest false (after_turn net turn) front (reached_next head net turn r s.0) d.at d.free (λ e. absurd (cc)) s.1 p.1 in
+      let moved : drains_some turn ≡ true = moves net turn r h.phase free s.0 p.0 live in
+      let one : one_if (drains_some turn) ≡ 1 = ap one_if moved in
+      let later : Left false (after_turn net turn) front more = rest false (after_turn net turn) front (reached_next head net turn r s.0) d.at d.free (λ e. absurd (cc)) s.1 p.1 in
       let order : length (after_turn net turn).modules.order ≡ length net.modules.order = ap length d.order in
-      omega (arith, most, one, later, order)
+      let few = later.few in
+      record { few = omega (arith, most, one, few, order); on = one_more turn more (moved_on turn.reply (and_last (is_drain turn.event) (is_moved turn.reply) moved)) later.on }
 
-  pause_left : (turn : Turn) (more : List Turn) → Rest_left more → (net : Net) (front : ℕ) → IsReached head net → IsAt net front → NoneCrossed net → SoundFrom net (turn ∷ more) → PausesAndDrains false (turn ∷ more) → Left false net front (length (turn ∷ more))
+  pause_left : (turn : Turn) (more : List Turn) → EachLeft more → (net : Net) (front : ℕ) → IsReached head net → IsAt net front → NoneCrossed net → SoundFrom net (turn ∷ more) → PausesAndDrains false (turn ∷ more) → Left false net front (turn ∷ more)
   pause_left turn more rest net front r h free s p = by (turn_steps net front turn h s.0 p.0)
     where
-      waits : (next : Net) → next ≡ net → IsReached head next → SoundFrom next more → is_waiting turn.reply ≡ true → (lists net.things ≡ [] → ⊥) → Left true net front (length more)
+      waits : (next : Net) → next ≡ net → IsReached head next → SoundFrom next more → is_waiting turn.reply ≡ true → (lists net.things ≡ [] → ⊥) → Left true net front more
       waits next e q t w live =
-          subst (λ m. IsReached head m → SoundFrom m more → Left true net front (length more)) (sym e)
+          subst (λ m. IsReached head m → SoundFrom m more → Left true net front more) (sym e)
           (λ q t. rest true net front q h free (λ _. live) t (subst (λ b. PausesAndDrains b more) w p.2)) q t
 
-      by : Steps net front turn.reply turn.rows → Left false net front (length (turn ∷ more))
+      by : Steps net front turn.reply turn.rows → Left false net front (turn ∷ more)
       by (inl w) =
-          let later = waits (after_turn net turn) (turn_after net turn p.0 ∙ ap (after_rows net) w.1) (reached_next head net turn r s.0) s.1 w.0 w.2 in
-          omega (arith, later)
+          let later : Left true net front more = waits (after_turn net turn) (turn_after net turn p.0 ∙ ap (after_rows net) w.1) (reached_next head net turn r s.0) s.1 w.0 w.2 in
+          let few = later.few in
+          record { few = omega (arith, few); on = one_more turn more (waiting_on turn.reply w.0) later.on }
       by (inr (inl e)) =
-          let none : length more ≡ 0 = ap length (p.1 e) in
+          let none : more ≡ [] = p.1 e in
+          let size : length more ≡ 0 = ap length none in
           let most = h.pausing.within in
-          omega (arith, none, most)
+          record {
+            few = omega (arith, size, most);
+            on = one_more turn more (ending_on turn.reply e) (subst (All (λ (t : Turn). goes_on t.reply ≡ true)) (sym none) (All-nil (λ (t : Turn). goes_on t.reply ≡ true)));
+          }
       by (inr (inr g)) =
           let still : is_still net.phase ≡ true = ap is_still h.phase in
           let on : IsOn net (after_turn net turn) front = subst (λ m. IsOn net m front) (sym (turn_after net turn p.0)) g.1 in
           let most : one_if (drains_some turn) + work (after_turn net turn) ≤ work net = turn_lessens net turn (in_place each head net some r still) still s.0 (ap is_draining p.0) in
           let clear : NoneCrossed (after_turn net turn) = subst (λ (ts : List Thing). Each (λ l. is_crossed l.crossed ≡ false) (lists ts)) (sym on.things) free in
-          let later : Left false (after_turn net turn) (front + 1) (length more) =
-          rest false (after_turn net turn) (front + 1) (reached_next head net turn r s.0) on.at clear (λ e. absurd (cc)) s.1 (subst (λ b. PausesAndDrains b more) g.0 p.2) in
+          let later : Left false (after_turn net turn) (front + 1) more =
+          rest false (after_turn net turn) (front + 1) (reached_next head net turn r s.0) on.at clear (λ e. absurd (cc)) s.1 (subst (λ b. PausesAndDrains b more) (ap is_waiting g.0) p.2) in
           let order : length (after_turn net turn).modules.order ≡ length net.modules.order = ap length on.order in
           let within = on.within in
-          omega (arith, most, later, order, within)
+          let few = later.few in
+          record { few = omega (arith, most, few, order, within); on = one_more turn more (ap goes_on g.0) later.on }
 
-  left : (more : List Turn) → Rest_left more
-  left [] due net front r h free live s p = some_left due net front h
+  left : (more : List Turn) → EachLeft more
+  left [] due net front r h free live s p = none_left due net front h
   left (turn ∷ more) true net front r h free live s p = drain_left turn more (left more) net front r h free (live refl) s p
   left (turn ∷ more) false net front r h free live s p = pause_left turn more (left more) net front r h free s p
 
@@ -257,5 +287,6 @@ pauses_in_time each head turns more s some p free d =
     let net : Net = seen head turns in
     let r : IsReached head net = reached_front head turns more s in
     let start = at_start head turns (sound_front head turns more s) p in
-    let most : Left each head some false net start.0 (length more) = left each head some more false net start.0 r start.1 free (λ e. absurd (cc)) (sound_rest head turns more s) d in
-    omega (arith, most)
+    let most : Left each head some false net start.0 more = left each head some more false net start.0 r start.1 free (λ e. absurd (cc)) (sound_rest head turns more s) d in
+    let few = most.few in
+    record { few = omega (arith, few); on = most.on }

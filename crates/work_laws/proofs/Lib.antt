@@ -17,3 +17,4 @@ pub mod Drains
 pub mod Others
 pub mod Cancels
 pub mod Movements
+pub mod InPlace

@@ -5,6 +5,7 @@
 ghost use Rattle.std.specs.Prelude.{◌*◌, ◌-◌};
 ghost use Rattle.stack_rules.specs.Work.{bottom};
 ghost use Rattle.journal_types.specs.declared.Event.TheVariants.{Drain};
+ghost use Rattle.work_laws.specs.InPlace.{EachInPlace};
 ghost use Rattle.work_laws.specs.Bounds.{is_ask, is_cancelling, is_done, is_drain, is_give_back, is_indication, is_pause, is_send, is_status, is_take, is_transmit, receive_room, send_room, EachAdds, EachAddsInPlace, EachLowers, EachLowersWhileStill, EachPumpLowers, EachQuietAddsNothing};
 
 /// Where everything stands in its place, each pump that is answered Moved lowers the work.
@@ -60,4 +61,10 @@ pub fn transmits_add_little()
     ensures transmit { EachAddsInPlace is_transmit receive_room }
     ensures drain { EachAddsInPlace is_drain receive_room }
     ensures quiet { EachQuietAddsNothing is_transmit }
+{}
+
+/// While a stack that has a binding isn't Halted, everything stands in its place after every sound
+/// journal.
+pub fn everything_is_in_place()
+    ensures { EachInPlace }
 {}
