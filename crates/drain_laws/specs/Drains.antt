@@ -1,6 +1,6 @@
 -- What is promised of a pause and its drains.
-use Rattle.std.specs.Prelude.{◌≡◌, ◌↔◌, ℕ, ◌+◌, ◌*◌, ◌&&◌, ◌≤◌, Bool, true, false, List, [], ◌∷◌, ◌++◌, length, count_by}
-use Rattle.std.specs.List.{All}
+use Rattle.std.specs.Prelude.{◌≡◌, ◌↔◌, ℕ, ◌+◌, ◌*◌, ◌&&◌, ◌<◌, ◌≤◌, Bool, true, false, List, [], ◌∷◌, ◌++◌, length, count_by}
+use Rattle.std.specs.List.{All, list_any}
 use Rattle.ndis_base.specs.declared.Phase.TheVariants.{Pausing}
 use Rattle.journal_types.specs.declared.Event.{Event}
 use Rattle.journal_types.specs.declared.Event.TheVariants as event
@@ -8,12 +8,17 @@ use Rattle.journal_types.specs.declared.Reply.{Reply}
 use Rattle.journal_types.specs.declared.Reply.TheVariants as reply
 use Rattle.journal_types.specs.declared.StackHead.{StackHead}
 use Rattle.journal_types.specs.declared.Turn.{Turn}
-use Rattle.stack_rules.specs.Net.{Net, lists, seen}
+use Rattle.stack_rules.specs.Net.{Net, after_turn, lists, seen}
 use Rattle.stack_rules.specs.Places.{is_crossed}
 use Rattle.stack_rules.specs.Sound.{Next, Sound}
 use Rattle.stack_rules.specs.Work.{work}
 use Rattle.rule_basics.specs.Live.{Each}
 use Rattle.work_laws.specs.Bounds.{is_drain}
+
+-- A pause begins where a BeginPause is accepted.
+abbrev pub PauseBegins : Type 0
+PauseBegins =
+    (net : Net) (turn : Turn) → Next net turn → turn.event ≡ event.BeginPause → turn.reply ≡ reply.Ok → (after_turn net turn).phase ≡ Pausing
 
 -- the events by which a stack that pauses becomes empty
 abbrev pub is_draining : Event → Bool
@@ -76,10 +81,18 @@ goes_on reply.Moved = true
 goes_on reply.Paused = true
 goes_on _ = false
 
--- The turns are at most two for each unit of the work and one for each position, and none is refused or idle: so
--- within as many turns the stack is Paused.
+abbrev pub is_ended : List Turn → Bool
+is_ended more = list_any (λ turn. ends_pause turn.reply) more
+
+-- two turns for each unit of the work, and one for each position
+abbrev pub time : Net → ℕ
+time net = 2 * work net + (length net.modules.order + 2)
+
+-- In that many turns the stack is Paused: the pause has no more of them, and fewer before its end; none is refused,
+-- and no drain is idle.
 pub record EndsInTime (net : Net) (more : List Turn) : Type 0 where
-  pub few : length more ≤ 2 * work net + (length net.modules.order + 2)
+  pub most : length more ≤ time net
+  pub before : is_ended more ≡ false → length more < time net
   pub on : All (λ turn. goes_on turn.reply ≡ true) more
 
 -- While a stack pauses, and no list of it has crossed, such a pause ends in time.

@@ -2,7 +2,7 @@
 //! `ensures` is a law, proved once for all journals.
 #![tactic(auto)]
 
-ghost use Rattle.drain_laws.specs.Drains.{DrainsAreBounded, IdleIsEmpty, IdleWhereDone, PausesInTime};
+ghost use Rattle.drain_laws.specs.Drains.{DrainsAreBounded, IdleIsEmpty, IdleWhereDone, PauseBegins, PausesInTime};
 ghost use Rattle.drain_laws.specs.Resting.{ListsRest};
 ghost use Rattle.drain_laws.specs.Serving.{RequestsAreServed};
 
@@ -31,7 +31,12 @@ pub fn idle_drains_are_done()
     ensures done { IdleWhereDone }
 {}
 
-/// A pause that drains once each time it has to wait, and none of whose lists has crossed, takes at most two
+/// A stack pauses after each BeginPause that is accepted.
+pub fn accepted_pauses_begin()
+    ensures { PauseBegins }
+{}
+
+/// A pause that drains once each time it has to wait, and none of whose lists has crossed, ends in at most two
 /// turns for each unit of the work and one for each position; none of them is refused and no drain is idle.
 pub fn pauses_end_in_time()
     ensures { PausesInTime }
