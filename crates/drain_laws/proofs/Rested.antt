@@ -55,7 +55,7 @@ use Rattle.rule_basics.proofs.Lists.{lists-append, lists-without}
 use Rattle.rule_basics.proofs.Lives.{find_is, find_none, is_live-others}
 use Rattle.home_laws.proofs.Known.{by_test, thing_found, OfThing}
 use Rattle.state_laws.proofs.Rows.{after_rows-append}
-use Rattle.state_laws.proofs.Quiet.{All-append, All-map, first_of_all}
+use Rattle.state_laws.proofs.Calm.{All-append, All-map, first_of_all}
 use Rattle.state_laws.proofs.Takes.{attached-is}
 use Rattle.work_laws.proofs.Clones.{any_clone}
 use Rattle.work_laws.proofs.Hands.{Found}

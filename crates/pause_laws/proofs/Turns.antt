@@ -87,7 +87,7 @@ changed_held net next h c = record {
     by (inl m) = move_clear net next h.shape.front c.shape.front m h.clear
     by (inr e) = nothing_clear next.modules c.shape.front net.next.list (lists net.things) (none_live net.modules h.shape.front (lists net.things) e h.clear.each)
 
-event_held : (net : Net) (e : Event) (c : Choice) → IsHeld net → IsHeld (state_after net e (outcome net e c))
+pub event_held : (net : Net) (e : Event) (c : Choice) → IsHeld net → IsHeld (state_after net e (outcome net e c))
 event_held net e c h =
     let cases : (b : Bool) → is_plain e ≡ b → IsHeld (state_after net e (outcome net e c)) = elim [
       | true ↦ λ p. plain_held net e c p h

@@ -14,7 +14,7 @@ use Rattle.stack_rules.specs.Cancels.{cancel_outcome, cancel_rows_at, cancelled_
 use Rattle.stack_rules.specs.Drains.{returned_by, returns_all, passed_by, passes_all, empties, empties_ring, drain_rows, drained}
 use Rattle.rule_basics.specs.Live.{Each}
 use Rattle.state_laws.proofs.Rows.{by_test, after_rows-append}
-use Rattle.state_laws.proofs.Quiet.{All-append, All-map, first_of_all}
+use Rattle.state_laws.proofs.Calm.{All-append, All-map, first_of_all}
 use Rattle.pause_laws.proofs.Works.{each_first}
 use Rattle.pause_laws.proofs.Keepers.{each_of}
 use Rattle.place_laws.proofs.Good.{IsPast, StandsAt}

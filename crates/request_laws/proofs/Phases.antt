@@ -37,7 +37,7 @@ states_still : (ss : List ModuleState) (m : ModuleId) → AreStill (map (λ s. s
 states_still [] m = tt
 states_still (s ∷ ss) m = (refl, states_still ss m)
 
-state_rows_still : (ss : List ModuleState) (ms : List ModuleId) → AreStill (state_rows ss ms)
+pub state_rows_still : (ss : List ModuleState) (ms : List ModuleId) → AreStill (state_rows ss ms)
 state_rows_still ss [] = tt
 state_rows_still ss (m ∷ ms) = still-append _ (state_rows ss ms) (states_still ss m) (state_rows_still ss ms)
 
@@ -74,7 +74,7 @@ kept_begin net k =
     by_test (λ o. IsKept (state_after net event.BeginPause o)) (phase_is_running net.phase) _ _
     (λ _. kept_still net (row.Phase (of.Stack phase.Pausing) ∷ state_rows (state.Pausing ∷ []) (binding_ids 0 net.modules.bindings)) k (refl, state_rows_still (state.Pausing ∷ []) (binding_ids 0 net.modules.bindings))) (λ _. k)
 
-paused_still : (net : Net) (i : ℕ) → AreStill (paused_rows net i)
+pub paused_still : (net : Net) (i : ℕ) → AreStill (paused_rows net i)
 paused_still net i =
     still-append (state_rows (state.Paused ∷ []) (get_or (floors net.modules) i [])) _
     (state_rows_still (state.Paused ∷ []) (get_or (floors net.modules) i []))
@@ -87,7 +87,7 @@ kept_pause net k =
     (λ _. by_test K (outstanding net (first_unpaused net) == 0) _ _ (λ _. kept_still net (paused_rows net (first_unpaused net)) k (paused_still net (first_unpaused net))) (λ _. k))
     (λ _. k)
 
-restart_still : (net : Net) (i : ℕ) → AreStill (restart_rows net i)
+pub restart_still : (net : Net) (i : ℕ) → AreStill (restart_rows net i)
 restart_still net i =
     let states : List Row = state_rows (state.Restarting ∷ state.Running ∷ []) (get_or (reverse (floors net.modules)) i []) in
     let last : List Row = cond (is_top net i) (row.Phase (of.Stack phase.Running) ∷ []) [] in
@@ -100,10 +100,10 @@ kept_restart net k =
     (λ _. kept_still net (restart_rows net (running_floors net)) k (restart_still net (running_floors net))) (λ _. k)
 
 -- nothing is live
-is_zero : (n : ℕ) → (n == 0) ≡ true → n ≡ 0
+pub is_zero : (n : ℕ) → (n == 0) ≡ true → n ≡ 0
 is_zero n h = grind (arith, nat_tests)
 
-no_requests : (rs : List Request) → length rs ≡ 0 → rs ≡ []
+pub no_requests : (rs : List Request) → length rs ≡ 0 → rs ≡ []
 no_requests [] h = refl
 no_requests (r ∷ rs) h = absurd (omega (arith, h))
 

@@ -17,3 +17,6 @@ pub mod Drains
 pub mod Others
 pub mod Cancels
 pub mod Movements
+pub mod Halted
+pub mod InPlace
+pub mod Journals

@@ -1,16 +1,18 @@
--- Each pump and each drain that moves something lowers the work, where everything stands in its place.
+-- Where everything stands in its place: which turns lower the work, and what others add.
 use Rattle.std.proofs.Common.{◌≡◌, ℕ, ◌+◌, ◌≤◌, Bool, true, false, List, arith, inl, inr, ap, sym, subst, ◌∙◌}
 use Rattle.journal_types.specs.declared.Event.{Event}
 use Rattle.journal_types.specs.declared.Event.TheVariants as event
 use Rattle.journal_types.specs.declared.Reply.{Reply}
 use Rattle.journal_types.specs.declared.Reply.TheVariants as reply
 use Rattle.journal_types.specs.declared.Row.{Row}
+use Rattle.journal_types.specs.declared.Turn.{Turn}
 use Rattle.stack_rules.specs.declared.Choice.{Choice}
-use Rattle.stack_rules.specs.Net.{Net, after_rows, told}
-use Rattle.stack_rules.specs.Sound.{outcome}
+use Rattle.stack_rules.specs.Tests.{phase_is_running}
+use Rattle.stack_rules.specs.Net.{Net, after_rows, after_turn, told}
+use Rattle.stack_rules.specs.Sound.{outcome, Next}
 use Rattle.stack_rules.specs.Work.{work}
 use Rattle.place_laws.specs.Kept.{IsInPlace}
-use Rattle.work_laws.specs.Bounds.{EachLowersWhileStill, receive_room, is_give_back, is_cancelling, is_done, is_transmit, is_drain, originates, EachLowers, EachPumpLowers, EachAddsInPlace, EachQuietAddsNothing}
+use Rattle.work_laws.specs.Bounds.{receive_room, is_give_back, is_cancelling, is_done, is_transmit, is_drain, originates}
 use Rattle.work_laws.proofs.Filters.{Lowers}
 use Rattle.work_laws.proofs.Pumps.{pump_lowers}
 use Rattle.work_laws.proofs.Drains.{IsStill, drain_lowers, loops_running}
@@ -27,13 +29,27 @@ drained : (net : Net) (e : Event) (r : Reply) (rows : List Row) (choice : Choice
 drained net event.Drain r rows choice h e a b m q = subst (Lowers net) (sym b) (drain_lowers net choice.keeps h (subst (IsStill net) b q) (sym a ∙ m))
 drained net _ r rows choice h e a b m q = cc
 
-pub each_pump : EachPumpLowers
+-- the turns that lower the work
+abbrev pub LowersInPlace : Event → Type 0
+LowersInPlace e =
+    (net : Net) (turn : Turn) → IsInPlace net → Next net turn → turn.event ≡ e → turn.reply ≡ reply.Moved → originates turn.rows ≡ false →
+    work (after_turn net turn) + 1 ≤ work net
+
+abbrev pub LowersWhileStill : Event → Type 0
+LowersWhileStill e =
+    (net : Net) (turn : Turn) → IsInPlace net → phase_is_running net.phase ≡ false → Next net turn → turn.event ≡ e → turn.reply ≡ reply.Moved → work (after_turn net turn) + 1 ≤ work net
+
+abbrev pub PumpLowers : Type 0
+PumpLowers =
+    (net : Net) (turn : Turn) → IsInPlace net → Next net turn → turn.event ≡ event.Pump → turn.reply ≡ reply.Moved → work (after_turn net turn) + 1 ≤ work net
+
+pub each_pump : PumpLowers
 each_pump net turn h n e m = pumped net turn.event turn.reply turn.rows n.choice h e n.reply n.rows m
 
-pub each_drain : EachLowers event.Drain
+pub each_drain : LowersInPlace event.Drain
 each_drain net turn h n e m q = drained net turn.event turn.reply turn.rows n.choice h e n.reply n.rows m (inl q)
 
-pub each_still_drain : EachLowersWhileStill event.Drain
+pub each_still_drain : LowersWhileStill event.Drain
 each_still_drain net turn h still n e m = drained net turn.event turn.reply turn.rows n.choice h e n.reply n.rows m (inr (loops_running net still))
 
 -- what other events add
@@ -67,6 +83,13 @@ quiet_transmits net event.Transmit r rows choice h q e o =
     omega (arith, least)
 quiet_transmits net _ r rows choice h q e o = cc
 
+-- each turn with such an event adds at most so much
+abbrev pub EachAddsInPlace : (Event → Bool) → (Net → ℕ) → Type 0
+EachAddsInPlace test room = (net : Net) (turn : Turn) → IsInPlace net → Next net turn → test turn.event ≡ true → work (after_turn net turn) ≤ work net + room net
+
+abbrev pub QuietAddsNothing : (Event → Bool) → Type 0
+QuietAddsNothing test = (net : Net) (turn : Turn) → IsInPlace net → Next net turn → test turn.event ≡ true → originates turn.rows ≡ false → work (after_turn net turn) ≤ work net
+
 each_in_place : (test : Event → Bool) (room : Net → ℕ) → AddsInPlace test room → EachAddsInPlace test room
 each_in_place test room adds net turn h n q = adds net turn.event turn.reply turn.rows n.choice h q n.rows
 
@@ -85,5 +108,5 @@ each_transmit = each_in_place is_transmit receive_room transmits
 pub each_drain_adds : EachAddsInPlace is_drain receive_room
 each_drain_adds = each_in_place is_drain receive_room drains
 
-pub each_quiet_transmit : EachQuietAddsNothing is_transmit
+pub each_quiet_transmit : QuietAddsNothing is_transmit
 each_quiet_transmit net turn h n q o = quiet_transmits net turn.event turn.reply turn.rows n.choice h q n.rows o

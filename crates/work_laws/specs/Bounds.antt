@@ -1,5 +1,5 @@
 -- How much each event may add to the work.
-use Rattle.std.specs.Prelude.{◌≡◌, ℕ, ◌+◌, ◌*◌, ◌≤◌, Bool, true, false, List}
+use Rattle.std.specs.Prelude.{◌≡◌, ℕ, ◌+◌, ◌*◌, ◌≤◌, Bool, true, false, List, length}
 use Rattle.journal_types.specs.declared.Event.{Event}
 use Rattle.journal_types.specs.declared.Event.TheVariants as event
 use Rattle.journal_types.specs.declared.StackHead.{StackHead}
@@ -10,7 +10,6 @@ use Rattle.journal_types.specs.declared.Row.{Row}
 use Rattle.journal_types.specs.declared.Row.TheVariants as row
 use Rattle.stack_rules.specs.Tests.{is_miniport, phase_is_running}
 use Rattle.stack_rules.specs.Net.{Net, after_turn, seen}
-use Rattle.place_laws.specs.Kept.{IsInPlace}
 use Rattle.stack_rules.specs.Sound.{Next, Sound}
 use Rattle.stack_rules.specs.Work.{bottom, echo_count, work}
 
@@ -65,21 +64,25 @@ is_originated _ = false
 abbrev pub originates : List Row → Bool
 originates rows = list_any is_originated rows
 
--- Where everything stands in its place, each such turn that is answered Moved, and in which the miniport
--- originates nothing, lowers the work.
+-- After every sound journal of a stack with a binding each turn with this event that is answered Moved, and in
+-- which the miniport originates nothing, lowers the work.
 abbrev pub EachLowers : Event → Type 0
 EachLowers e =
-    (net : Net) (turn : Turn) → IsInPlace net → Next net turn → turn.event ≡ e → turn.reply ≡ reply.Moved → originates turn.rows ≡ false →
-    work (after_turn net turn) + 1 ≤ work net
+    (head : StackHead) (turns : List Turn) (turn : Turn) → Sound head turns → 1 ≤ length head.bindings → Next (seen head turns) turn → turn.event ≡ e → turn.reply ≡ reply.Moved → originates turn.rows ≡ false →
+    work (after_turn (seen head turns) turn) + 1 ≤ work (seen head turns)
 
--- while the stack doesn't run, the miniport originates nothing
+-- While the stack doesn't run the miniport originates nothing, and each turn with this event that is answered Moved
+-- lowers the work.
 abbrev pub EachLowersWhileStill : Event → Type 0
 EachLowersWhileStill e =
-    (net : Net) (turn : Turn) → IsInPlace net → phase_is_running net.phase ≡ false → Next net turn → turn.event ≡ e → turn.reply ≡ reply.Moved → work (after_turn net turn) + 1 ≤ work net
+    (head : StackHead) (turns : List Turn) (turn : Turn) → Sound head turns → 1 ≤ length head.bindings → phase_is_running (seen head turns).phase ≡ false → Next (seen head turns) turn → turn.event ≡ e → turn.reply ≡ reply.Moved →
+    work (after_turn (seen head turns) turn) + 1 ≤ work (seen head turns)
 
+-- In a pump the miniport originates nothing, and each one that is answered Moved lowers the work.
 abbrev pub EachPumpLowers : Type 0
 EachPumpLowers =
-    (net : Net) (turn : Turn) → IsInPlace net → Next net turn → turn.event ≡ event.Pump → turn.reply ≡ reply.Moved → work (after_turn net turn) + 1 ≤ work net
+    (head : StackHead) (turns : List Turn) (turn : Turn) → Sound head turns → 1 ≤ length head.bindings → Next (seen head turns) turn → turn.event ≡ event.Pump → turn.reply ≡ reply.Moved →
+    work (after_turn (seen head turns) turn) + 1 ≤ work (seen head turns)
 
 -- kinds of events
 abbrev pub is_give_back : Event → Bool
@@ -102,10 +105,15 @@ abbrev pub is_drain : Event → Bool
 is_drain event.Drain = true
 is_drain _ = false
 
--- Where everything stands in its place, each turn with such an event adds at most so much.
-abbrev pub EachAddsInPlace : (Event → Bool) → (Net → ℕ) → Type 0
-EachAddsInPlace test room = (net : Net) (turn : Turn) → IsInPlace net → Next net turn → test turn.event ≡ true → work (after_turn net turn) ≤ work net + room net
+-- After every sound journal of a stack with a binding each turn with such an event adds at most so much.
+abbrev pub EachBoundAdds : (Event → Bool) → (Net → ℕ) → Type 0
+EachBoundAdds test room =
+    (head : StackHead) (turns : List Turn) (turn : Turn) → Sound head turns → 1 ≤ length head.bindings → Next (seen head turns) turn → test turn.event ≡ true →
+    work (after_turn (seen head turns) turn) ≤ work (seen head turns) + room (seen head turns)
 
--- Where everything stands in its place, each such turn in which the miniport originates nothing adds nothing.
+-- After every sound journal of a stack with a binding each turn with such an event in which the miniport originates
+-- nothing adds nothing.
 abbrev pub EachQuietAddsNothing : (Event → Bool) → Type 0
-EachQuietAddsNothing test = (net : Net) (turn : Turn) → IsInPlace net → Next net turn → test turn.event ≡ true → originates turn.rows ≡ false → work (after_turn net turn) ≤ work net
+EachQuietAddsNothing test =
+    (head : StackHead) (turns : List Turn) (turn : Turn) → Sound head turns → 1 ≤ length head.bindings → Next (seen head turns) turn → test turn.event ≡ true → originates turn.rows ≡ false →
+    work (after_turn (seen head turns) turn) ≤ work (seen head turns)

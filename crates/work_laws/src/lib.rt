@@ -5,15 +5,22 @@
 ghost use Rattle.std.specs.Prelude.{◌*◌, ◌-◌};
 ghost use Rattle.stack_rules.specs.Work.{bottom};
 ghost use Rattle.journal_types.specs.declared.Event.TheVariants.{Drain};
-ghost use Rattle.work_laws.specs.Bounds.{is_ask, is_cancelling, is_done, is_drain, is_give_back, is_indication, is_pause, is_send, is_status, is_take, is_transmit, receive_room, send_room, EachAdds, EachAddsInPlace, EachLowers, EachLowersWhileStill, EachPumpLowers, EachQuietAddsNothing};
+ghost use Rattle.work_laws.specs.Bounds.{is_ask, is_cancelling, is_done, is_drain, is_give_back, is_indication, is_pause, is_send, is_status, is_take, is_transmit, receive_room, send_room, EachAdds, EachBoundAdds, EachLowers, EachLowersWhileStill, EachPumpLowers, EachQuietAddsNothing};
+ghost use Rattle.work_laws.specs.InPlace.{EachInPlace};
 
-/// Where everything stands in its place, each pump that is answered Moved lowers the work.
+/// While a stack that has a binding isn't Halted, everything stands in its place: each list, status and
+/// filter, and each request and answer.
+pub fn everything_stands_in_place()
+    ensures { EachInPlace }
+{}
+
+/// Each pump that is answered Moved lowers the work of a stack that has a binding.
 pub fn pumps_lower_work()
     ensures { EachPumpLowers }
 {}
 
-/// Where everything stands in its place, each drain that is answered Moved lowers the work, but one in
-/// which the miniport indicates what it transmits, which it does only while the stack runs.
+/// Each drain that is answered Moved lowers the work of a stack that has a binding, but one in which the
+/// miniport indicates what it transmits, which it does only while the stack runs.
 pub fn drains_lower_work()
     ensures lowers { EachLowers Drain }
     ensures still { EachLowersWhileStill Drain }
@@ -42,22 +49,22 @@ pub fn pauses_add_nothing()
     ensures take { EachAdds is_take (λ net. 0) }
 {}
 
-/// Where everything stands in its place, a cancel adds nothing to the work.
+/// A cancel adds nothing to the work of a stack that has a binding.
 pub fn cancels_add_nothing()
-    ensures { EachAddsInPlace is_cancelling (λ net. 0) }
+    ensures { EachBoundAdds is_cancelling (λ net. 0) }
 {}
 
-/// Where everything stands in its place, a list that is given back adds nothing to the work, and one that
-/// is done in the other stack at most the miniport's position.
+/// In a stack that has a binding a list that is given back adds nothing to the work, and one that is done
+/// in the other stack at most the miniport's position.
 pub fn returns_add_little()
-    ensures give_back { EachAddsInPlace is_give_back (λ net. 0) }
-    ensures done { EachAddsInPlace is_done (λ net. bottom net) }
+    ensures give_back { EachBoundAdds is_give_back (λ net. 0) }
+    ensures done { EachBoundAdds is_done (λ net. bottom net) }
 {}
 
-/// Where everything stands in its place, a transmit and a drain add at most as much as an indication, and
-/// a transmit in which the miniport indicates nothing adds nothing.
+/// In a stack that has a binding a transmit and a drain add at most as much as an indication, and a transmit
+/// in which the miniport indicates nothing adds nothing.
 pub fn transmits_add_little()
-    ensures transmit { EachAddsInPlace is_transmit receive_room }
-    ensures drain { EachAddsInPlace is_drain receive_room }
+    ensures transmit { EachBoundAdds is_transmit receive_room }
+    ensures drain { EachBoundAdds is_drain receive_room }
     ensures quiet { EachQuietAddsNothing is_transmit }
 {}

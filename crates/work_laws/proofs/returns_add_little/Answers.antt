@@ -1,5 +1,5 @@
-use Rattle.work_laws.proofs.Movements.{each_give_back, each_done}
+use Rattle.work_laws.proofs.Journals.{sound_give_back, sound_done}
 use Rattle.work_laws.proofs.returns_add_little.Goals as goal
 
 pub returns : goal.returns
-returns c = record { give_back = each_give_back; done = each_done }
+returns c = record { give_back = sound_give_back; done = sound_done }
