@@ -1,10 +1,12 @@
 //! The journals of the two pauses.
-ghost use Rattle.std.specs.Prelude.{◌≡◌, IfOk, IfSome, OnOk, true};
+ghost use Rattle.std.specs.Prelude.{◌≡◌, IfOk, IfSome, true, drop, take};
 ghost use Rattle.stack_rules.specs.Sound.{Sound};
+ghost use Rattle.drain_rows.specs.Laws.{MeetsLaws};
 
+use crate::laws::shows_laws;
 use journal_types::{BindingSetups, Event, Frames, PortSetup, Setup, StackHead, UpperLinks};
+use law_rows::ask;
 use ndis_base::{FilterKind, Frame, Handlers, LaneNo, MiniportKind, OutOfMemory, ProtocolKind, Who};
-use plain_stack::may_ask;
 use plain_walk::WalkedStack;
 use program_types::Program;
 use std::alloc::Global;
@@ -100,43 +102,62 @@ fn asked_of_hold(alloc: Global, turn: usize) -> Result<Option<(Who, Event)>, Out
     })
 }
 
-/// One turn, where the event may be asked.
-fn ask(stack: &mut WalkedStack, asked: Option<(Who, Event)>) -> Result<bool, OutOfMemory>
-    requires { Sound stack.old.head stack.old.turns }
-    ensures { IfOk result (λ done. done ≡ true → Sound stack.new.head stack.new.turns) }
-{
-    let Some((who, event)) = asked else {
-        return Ok(false);
-    };
-    if !may_ask(stack.head(), &event) {
-        return Ok(false);
-    }
-    stack.turn(who, event)?;
-    Ok(true)
-}
-
-/// The journal of a stack that pauses with a frame in its miniport's ring.
-pub fn ring_pause(alloc: Global) -> Result<Option<WalkedStack>, OutOfMemory>
+fn walk_ring(alloc: Global) -> Result<Option<WalkedStack>, OutOfMemory>
     ensures { IfOk result (λ walked. IfSome walked (λ w. Sound w.head w.turns)) }
 {
     let mut stack = WalkedStack::start(alloc, head(alloc)?)?;
     for turn in 0..14 {
-        if !ask(&mut stack, asked_of_ring(alloc, turn)?)? {
+        let Some((who, event)) = asked_of_ring(alloc, turn)? else {
+            return Ok(None);
+        };
+        if !ask(&mut stack, who, event)? {
             return Ok(None);
         }
     }
     Ok(Some(stack))
 }
 
-/// The journal of a stack that pauses with a frame in its hold filter.
-pub fn hold_pause(alloc: Global) -> Result<Option<WalkedStack>, OutOfMemory>
+fn walk_hold(alloc: Global) -> Result<Option<WalkedStack>, OutOfMemory>
     ensures { IfOk result (λ walked. IfSome walked (λ w. Sound w.head w.turns)) }
 {
     let mut stack = WalkedStack::start(alloc, head(alloc)?)?;
     for turn in 0..22 {
-        if !ask(&mut stack, asked_of_hold(alloc, turn)?)? {
+        let Some((who, event)) = asked_of_hold(alloc, turn)? else {
+            return Ok(None);
+        };
+        if !ask(&mut stack, who, event)? {
             return Ok(None);
         }
+    }
+    Ok(Some(stack))
+}
+
+/// The journal of a stack that pauses with a frame in its miniport's ring: it is sound, and each law holds
+/// of it. There is none where an event may not be asked, which the test sees not to be so.
+pub fn ring_pause(alloc: Global) -> Result<Option<WalkedStack>, OutOfMemory>
+    ensures sound { IfOk result (λ walked. IfSome walked (λ w. Sound w.head w.turns)) }
+    ensures laws { IfOk result (λ walked. IfSome walked (λ w. MeetsLaws w.head (take 8 w.turns) (drop 8 w.turns))) }
+{
+    let Some(stack) = walk_ring(alloc)? else {
+        return Ok(None);
+    };
+    if !shows_laws(alloc, &stack, RING_BEGUN)? {
+        return Ok(None);
+    }
+    Ok(Some(stack))
+}
+
+/// The journal of a stack that pauses with a frame in its hold filter: it is sound, and each law holds of it.
+/// There is none where an event may not be asked, which the test sees not to be so.
+pub fn hold_pause(alloc: Global) -> Result<Option<WalkedStack>, OutOfMemory>
+    ensures sound { IfOk result (λ walked. IfSome walked (λ w. Sound w.head w.turns)) }
+    ensures laws { IfOk result (λ walked. IfSome walked (λ w. MeetsLaws w.head (take 9 w.turns) (drop 9 w.turns))) }
+{
+    let Some(stack) = walk_hold(alloc)? else {
+        return Ok(None);
+    };
+    if !shows_laws(alloc, &stack, HOLD_BEGUN)? {
+        return Ok(None);
     }
     Ok(Some(stack))
 }

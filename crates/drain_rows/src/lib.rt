@@ -3,6 +3,7 @@
 #![tactic(auto)]
 
 pub mod journals;
+pub mod laws;
 pub mod states;
 
 ghost use Rattle.std.specs.Prelude.{◌≡◌};

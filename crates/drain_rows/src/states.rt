@@ -1,5 +1,5 @@
 //! The state after the first turns of a journal, and the work that is left there.
-ghost use Rattle.std.specs.Prelude.{◌≡◌, IfOk, OnOk, take};
+ghost use Rattle.std.specs.Prelude.{◌≡◌, IfOk, OnOk, drop, take};
 ghost use Rattle.stack_rules.specs.Net.{after_turns, seen};
 ghost use Rattle.stack_rules.specs.Work.{work};
 
@@ -18,6 +18,17 @@ pub fn first_turns(turns: &[Turn], many: usize) -> &[Turn]
         &turns[..many]
     } else {
         turns
+    }
+}
+
+/// The others.
+pub fn other_turns(turns: &[Turn], many: usize) -> &[Turn]
+    ensures { result.now ≡ drop many turns.now }
+{
+    if many < turns.len() {
+        &turns[many..]
+    } else {
+        &turns[turns.len()..]
     }
 }
 
