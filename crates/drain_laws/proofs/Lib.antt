@@ -4,3 +4,7 @@ pub mod Resting
 pub mod Rested
 pub mod Lent
 pub mod Rests
+pub mod Idle
+pub mod Pausing
+pub mod Serving
+pub mod Served

@@ -200,7 +200,7 @@ up_rest net l (Module (Binding b)) keeps h = h
 
 -- a list on its way home
 no_more : (net next : Net) (n : ℕ) → list_of n (lists next.things) ≡ None → Rest net (only n) next → Rest net none next
-no_more net next n f h = record { numbered = h.numbered; each = each_of (lists next.things) (find_none n (lists next.things) f) h.each }
+no_more net next n f h = record { numbered = h.numbered; each = each_of (lists next.things) (find_none n (lists next.things) f) h.each; free = h.free }
   where
     split : (a b : Bool) → (a || b) ≡ false → (a ≡ false) × (b ≡ false)
     split true b e = cc

@@ -3,6 +3,7 @@ use Rattle.std.proofs.Common.{◌≡◌, ℕ, ◌+◌, ◌==◌, ◌||◌, not, 
 use Rattle.std.specs.List.{list_any}
 use Rattle.std.proofs.lemmas.Bool.Decides.{nat_tests}
 use Rattle.std.proofs.lemmas.List.Folds.{list_any-append}
+use Rattle.ndis_base.specs.declared.CrossNo.{CrossNo}
 use Rattle.ndis_base.specs.declared.ListNo.{ListNo}
 use Rattle.ndis_base.specs.declared.ListStatus.{ListStatus}
 use Rattle.ndis_base.specs.declared.ConfigNo.{ConfigNo}
@@ -22,16 +23,17 @@ use Rattle.stack_rules.specs.declared.LiveList.{LiveList}
 use Rattle.stack_rules.specs.declared.Stand.{Stand}
 use Rattle.stack_rules.specs.declared.Stand.TheVariants as stand
 use Rattle.stack_rules.specs.Net.{Net, Modules, after, after_rows, lists, list_of, had_by, taken_by, kept_by, passed_to, request_of}
-use Rattle.stack_rules.specs.Places.{position, has_clone, is_clone_of}
+use Rattle.stack_rules.specs.Places.{position, has_clone, is_clone_of, is_crossed}
 use Rattle.stack_rules.specs.Targets.{onward, homeward, homeward_by, turned_back}
 use Rattle.rule_basics.specs.Live.{IsApart, Each, KeepsNumber, others, retouched, with_last}
 use Rattle.rule_basics.specs.Numbers.{IsNumbered}
-use Rattle.rule_basics.proofs.Each.{Each-append, Each-found, Each-implies, Each-retouched}
+use Rattle.rule_basics.proofs.Each.{Each-append, Each-found, Each-implies, Each-others, Each-retouched}
 use Rattle.rule_basics.proofs.Lists.{lists-append, lists-without, lists-changed, lists-kept, lists-passed}
 use Rattle.rule_basics.proofs.Lives.{find_is}
 use Rattle.rule_basics.proofs.Numbered.{numbered_after, lists-without_status, lists-status, lists-things_done}
 use Rattle.work_laws.proofs.Weights.{Stay}
 use Rattle.work_laws.proofs.Clones.{any_clone, clones_after, taken_any}
+use Rattle.drain_laws.specs.Drains.{NoneCrossed}
 use Rattle.drain_laws.specs.Resting.{MayKeep, Rests}
 
 -- a clone that is new changes nothing
@@ -54,10 +56,14 @@ fine_more : (base : Net) (loose looser cloned more : ℕ → Bool) (l : LiveList
 fine_more base loose looser cloned more l f s (inl o) = inl (f o)
 fine_more base loose looser cloned more l f s (inr r) = inr (rests_more base (cloned l.list.0) (more l.list.0) l.stand (s l.list.0) r)
 
--- each live list of the state rests, or is loose
+-- each live list of the state rests, or is loose; and where none had crossed, none has
 pub record Rest (base : Net) (loose : ℕ → Bool) (next : Net) : Type 0 where
   pub numbered : IsNumbered next
   pub each : Each (Fine base loose (has_clone next)) (lists next.things)
+  pub free : NoneCrossed base → NoneCrossed next
+
+abbrev IsFree : LiveList → Type 0
+IsFree l = is_crossed l.crossed ≡ false
 
 -- no list is loose, or only one
 abbrev pub none : ℕ → Bool
@@ -90,6 +96,7 @@ issue_rest base next loose looser list owner config direction cancel origin fram
     record {
       numbered = numbered_after next r e h.numbered;
       each = subst (Each (Fine base looser (has_clone (after next r)))) (sym (lists-append next.things _)) (Each-append _ (lists next.things) new old (inl o.0));
+      free = λ f. subst (Each IsFree) (sym (lists-append next.things _)) (Each-append IsFree (lists next.things) new (h.free f) refl);
     }
 
 -- the lists but one
@@ -123,6 +130,7 @@ pass_rest base next loose closed list way to c h =
     record {
       numbered = numbered_after next r tt h.numbered;
       each = subst (Each P) (sym (lists-passed list.0 way to next.things)) (last_each P (others list.0 ls) (passed_to way to (list_of list.0 ls)) old new);
+      free = λ f. subst (Each IsFree) (sym (lists-passed list.0 way to next.things)) (last_each IsFree (others list.0 ls) (passed_to way to (list_of list.0 ls)) (Each-others IsFree list.0 ls (h.free f)) (λ l e. is_passed IsFree (list_of list.0 ls) l (λ x. refl) e));
     }
   where
     is_passed : (P : LiveList → Type 0) (o : Option LiveList) (l : LiveList) → ((x : LiveList) → P (record x { stand = stand.Passed way to; crossed = None })) → passed_to way to o ≡ Some l → P l
@@ -144,11 +152,16 @@ keep_rest base next loose closed list m c may h =
     record {
       numbered = numbered_after next r tt h.numbered;
       each = subst (Each P) (sym (lists-kept list.0 m next.things)) (last_each P (others list.0 ls) (kept_by m (list_of list.0 ls)) old new);
+      free = λ f. subst (Each IsFree) (sym (lists-kept list.0 m next.things)) (last_each IsFree (others list.0 ls) (kept_by m (list_of list.0 ls)) (Each-others IsFree list.0 ls (h.free f)) (λ l e. was_free (list_of list.0 ls) refl l (h.free f) e));
     }
   where
     is_kept : (P : LiveList → Type 0) (o : Option LiveList) → list_of list.0 (lists next.things) ≡ o → (l : LiveList) → ((x : LiveList) → x.list.0 ≡ list.0 → P (record x { last = m; stand = stand.Kept m })) → kept_by m o ≡ Some l → P l
     is_kept P None i l f e = cc
     is_kept P (Some x) i l f e = subst P (some_same (record x { last = m; stand = stand.Kept m }) l e) (f x (find_is list.0 (lists next.things) x i).0)
+
+    was_free : (o : Option LiveList) → list_of list.0 (lists next.things) ≡ o → (l : LiveList) → NoneCrossed next → kept_by m o ≡ Some l → IsFree l
+    was_free None i l f e = cc
+    was_free (Some x) i l f e = subst IsFree (some_same (record x { last = m; stand = stand.Kept m }) l e) (Each-found IsFree list.0 (lists next.things) x f i)
 
 -- a list is home: what it was a clone of may have no clone any more
 or_first : (a b : Bool) → b ≡ false → (a || b) ≡ true → a ≡ true
@@ -165,6 +178,7 @@ home_rest base next loose closed l owner status found c opens h =
     record {
       numbered = numbered_after next r tt h.numbered;
       each = subst (Each P) (sym (lists-without l.list.0 next.things)) old;
+      free = λ f. subst (Each IsFree) (sym (lists-without l.list.0 next.things)) (Each-others IsFree l.list.0 ls (h.free f));
     }
   where
     still : (n : ℕ) → is_clone_of n l.origin ≡ false → has_clone next n ≡ true → has_clone (after next (row.Home l.list owner status)) n ≡ true
@@ -194,13 +208,17 @@ is_plain_row (row.OidGive request m) = true
 is_plain_row (row.OidDone request status value) = true
 is_plain_row (row.Status number name to) = true
 is_plain_row (row.Seen number m) = true
-is_plain_row (row.CrossOut message way frames) = true
+is_plain_row (row.CrossOut message out.Up frames) = true
 is_plain_row (row.CrossIn stack message way frames) = true
 is_plain_row _ = false
 
 -- lists that are the same, or touched without a change of their numbers and stands
-by_lists : (base next other : Net) (loose : ℕ → Bool) → IsNumbered other → Stay (has_clone next) (has_clone other) → Each (Fine base loose (has_clone next)) (lists other.things) → Rest base loose other
-by_lists base next other loose n s h = record { numbered = n; each = Each-implies _ _ (λ l f. fine_more base loose loose (has_clone next) (has_clone other) l (λ o. o) s f) (lists other.things) h }
+by_lists : (base next other : Net) (loose : ℕ → Bool) → IsNumbered other → Stay (has_clone next) (has_clone other) → ((P : LiveList → Type 0) → ((l : LiveList) (m : ModuleId) → P l → P (had_by m l)) → Each P (lists next.things) → Each P (lists other.things)) → Rest base loose next → Rest base loose other
+by_lists base next other loose n s f h = record {
+  numbered = n;
+  each = Each-implies _ _ (λ l r. fine_more base loose loose (has_clone next) (has_clone other) l (λ o. o) s r) (lists other.things) (f (Fine base loose (has_clone next)) (λ l m r. r) h.each);
+  free = λ g. f IsFree (λ l m r. r) (h.free g);
+}
 
 touched_each : (P : LiveList → Type 0) (n : ℕ) (g : LiveList → LiveList) (ls : List LiveList) → ((l : LiveList) → P l → P (g l)) → IsApart ls → Each P ls → Each P (retouched n g ls)
 touched_each P n g ls f a h = Each-retouched P n g ls a h (λ l e. f l (Each-found P n ls l h e))
@@ -209,33 +227,30 @@ pub plain_rest : (base next : Net) (loose : ℕ → Bool) (r : Row) → is_plain
 plain_rest base next loose (row.Give list m handler) p h =
     let r : Row = row.Give list m handler in
     by_lists base next (after next r) loose (numbered_after next r tt h.numbered) (clones_after next r h.numbered refl)
-    (subst (Each (Fine base loose (has_clone next))) (sym (lists-changed list.0 (had_by m) next.things)) (touched_each _ list.0 (had_by m) (lists next.things) (λ l f. f) h.numbered.apart h.each))
+    (λ P f e. subst (Each P) (sym (lists-changed list.0 (had_by m) next.things)) (touched_each P list.0 (had_by m) (lists next.things) (λ l p. f l m p) h.numbered.apart e)) h
 plain_rest base next loose (row.TurnBack list m status) p h =
     let r : Row = row.TurnBack list m status in
     by_lists base next (after next r) loose (numbered_after next r tt h.numbered) (clones_after next r h.numbered refl)
-    (subst (Each (Fine base loose (has_clone next))) (sym (lists-changed list.0 (had_by m) next.things)) (touched_each _ list.0 (had_by m) (lists next.things) (λ l f. f) h.numbered.apart h.each))
-plain_rest base next loose (row.CrossOut message (out.Down list) frames) p h =
-    let r : Row = row.CrossOut message (out.Down list) frames in
-    by_lists base next (after next r) loose (numbered_after next r tt h.numbered) (clones_after next r h.numbered refl)
-    (subst (Each (Fine base loose (has_clone next))) (sym (lists-changed list.0 (taken_by message.0) next.things)) (touched_each _ list.0 (taken_by message.0) (lists next.things) (λ l f. f) h.numbered.apart h.each))
-plain_rest base next loose (row.CrossOut message out.Up frames) p h = record { numbered = record { apart = h.numbered.apart; below = h.numbered.below }; each = h.each }
+    (λ P f e. subst (Each P) (sym (lists-changed list.0 (had_by m) next.things)) (touched_each P list.0 (had_by m) (lists next.things) (λ l p. f l m p) h.numbered.apart e)) h
+plain_rest base next loose (row.CrossOut message (out.Down list) frames) p h = cc
+plain_rest base next loose (row.CrossOut message out.Up frames) p h = record { numbered = record { apart = h.numbered.apart; below = h.numbered.below }; each = h.each; free = h.free }
 plain_rest base next loose (row.CrossIn stack message way frames) p h = h
-plain_rest base next loose (row.Wire list frames) p h = record { numbered = record { apart = h.numbered.apart; below = h.numbered.below }; each = h.each }
-plain_rest base next loose (row.Deliver list binding how frames) p h = record { numbered = record { apart = h.numbered.apart; below = h.numbered.below }; each = h.each }
-plain_rest base next loose (row.OidIssue request parent binding kind code value) p h = record { numbered = record { apart = h.numbered.apart; below = h.numbered.below }; each = h.each }
-plain_rest base next loose (row.OidGive request m) p h = record { numbered = record { apart = h.numbered.apart; below = h.numbered.below }; each = h.each }
+plain_rest base next loose (row.Wire list frames) p h = record { numbered = record { apart = h.numbered.apart; below = h.numbered.below }; each = h.each; free = h.free }
+plain_rest base next loose (row.Deliver list binding how frames) p h = record { numbered = record { apart = h.numbered.apart; below = h.numbered.below }; each = h.each; free = h.free }
+plain_rest base next loose (row.OidIssue request parent binding kind code value) p h = record { numbered = record { apart = h.numbered.apart; below = h.numbered.below }; each = h.each; free = h.free }
+plain_rest base next loose (row.OidGive request m) p h = record { numbered = record { apart = h.numbered.apart; below = h.numbered.below }; each = h.each; free = h.free }
 plain_rest base next loose (row.OidDone request status value) p h =
     let r : Row = row.OidDone request status value in
     by_lists base next (after next r) loose (numbered_after next r tt h.numbered) (clones_after next r h.numbered refl)
-    (subst (Each (Fine base loose (has_clone next))) (sym (lists-things_done (request_of request.0 next.requests) request status value next.things)) h.each)
+    (λ P f e. subst (Each P) (sym (lists-things_done (request_of request.0 next.requests) request status value next.things)) e) h
 plain_rest base next loose (row.Status number name to) p h =
     let r : Row = row.Status number name to in
     by_lists base next (after next r) loose (numbered_after next r tt h.numbered) (clones_after next r h.numbered refl)
-    (subst (Each (Fine base loose (has_clone next))) (sym (lists-status number.0 next.things _ refl)) h.each)
+    (λ P f e. subst (Each P) (sym (lists-status number.0 next.things _ refl)) e) h
 plain_rest base next loose (row.Seen number m) p h =
     let r : Row = row.Seen number m in
     by_lists base next (after next r) loose (numbered_after next r tt h.numbered) (clones_after next r h.numbered refl)
-    (subst (Each (Fine base loose (has_clone next))) (sym (lists-without_status number.0 next.things)) h.each)
+    (λ P f e. subst (Each P) (sym (lists-without_status number.0 next.things)) e) h
 plain_rest base next loose _ p h = cc
 
 -- onwards and homewards
@@ -279,3 +294,29 @@ pub back_rest : (base next : Net) (ms : Modules) (l : LiveList) (m : ModuleId) (
 back_rest base next ms l m status h =
     homeward_rest base (after next (row.TurnBack l.list m status)) none none ms l.list l.owner l.direction (position ms.order m) status (closes_none l.list.0)
     (plain_rest base next none (row.TurnBack l.list m status) refl h)
+
+-- a list is taken to another stack
+pub cross_rest : (base : Net) (list : ListNo) (message : CrossNo) (frames : List (List ℕ)) → Rest base none base → Rest (after base (row.CrossOut message (out.Down list) frames)) none (after base (row.CrossOut message (out.Down list) frames))
+cross_rest base list message frames h =
+    let r : Row = row.CrossOut message (out.Down list) frames in
+    let all : Each (Fine base none (has_clone base)) (lists (after base r).things) =
+    subst (Each (Fine base none (has_clone base))) (sym (lists-changed list.0 (taken_by message.0) base.things)) (touched_each _ list.0 (taken_by message.0) (lists base.things) (λ l f. f) h.numbered.apart h.each) in
+    record {
+      numbered = numbered_after base r tt h.numbered;
+      each = Each-implies _ _ (λ l f. crossed l f) (lists (after base r).things) all;
+      free = λ f. f;
+    }
+  where
+    may : (m : ModuleId) (b : Bool) → MayKeep base b m → MayKeep (after base (row.CrossOut message (out.Down list) frames)) b m
+    may Miniport b h = tt
+    may (Filter f) b h = h
+    may (Binding n) b h = h
+
+    rests : (s : Stand) (b : Bool) → Rests base b s → Rests (after base (row.CrossOut message (out.Down list) frames)) b s
+    rests stand.Unplaced b h = h
+    rests (stand.Kept m) b h = may m b h
+    rests (stand.Passed way to) b h = tt
+
+    crossed : (l : LiveList) → Fine base none (has_clone base) l → Fine (after base (row.CrossOut message (out.Down list) frames)) none (has_clone (after base (row.CrossOut message (out.Down list) frames))) l
+    crossed l (inl o) = inl o
+    crossed l (inr r) = inr (rests l.stand _ (rests_more base (has_clone base l.list.0) _ l.stand (clones_after base (row.CrossOut message (out.Down list) frames) h.numbered refl l.list.0) r))

@@ -34,7 +34,7 @@ use Rattle.stack_rules.specs.declared.Stand.TheVariants as stand
 use Rattle.stack_rules.specs.declared.Thing.{Thing}
 use Rattle.stack_rules.specs.Tests.{is_retain, is_running, is_unbound, is_halted, phase_is_running, phase_is_paused, phase_is_pausing, phase_is_halted, phase_is_restarting}
 use Rattle.stack_rules.specs.Net.{Net, Modules, after, after_rows, after_turn, after_turns, attached, binding_numbers, kind_of_binding, lists, list_of, seen, start, told, with_state, is_detached}
-use Rattle.stack_rules.specs.Places.{position, has_clone, is_clone_of, is_full, is_kept_by, outstanding, state_of}
+use Rattle.stack_rules.specs.Places.{position, has_clone, is_clone_of, is_crossed, is_full, is_kept_by, outstanding, state_of}
 use Rattle.stack_rules.specs.Targets.{onward, homeward, next_status}
 use Rattle.stack_rules.specs.Outcome.{Outcome, list_no, oid_no, status_no, cross_no, config_no}
 use Rattle.stack_rules.specs.Cancels.{hold_in, holds_lists}
@@ -57,9 +57,10 @@ use Rattle.state_laws.proofs.Events.{state_after, at_phase, event_kept, plain_sa
 use Rattle.pause_laws.specs.Clear.{IsHeld}
 use Rattle.pause_laws.proofs.Fronts.{none_live}
 use Rattle.pause_laws.proofs.Turns.{held_journal}
+use Rattle.work_laws.specs.Bounds.{is_take}
 use Rattle.drain_laws.specs.Resting.{MayKeep, Rests, IsResting, ListsRest}
 use Rattle.drain_laws.proofs.Reached.{IsReached, reached_next, of_reached}
-use Rattle.drain_laws.proofs.Resting.{Fine, Rest, none, closes_none, plain_rest, homeward_rest, issue_on}
+use Rattle.drain_laws.proofs.Resting.{Fine, Rest, none, closes_none, plain_rest, homeward_rest, issue_on, cross_rest}
 use Rattle.drain_laws.proofs.Rested.{Leaves, pump_rest, drain_rest, cancel_rest, transmitted_rest}
 use Rattle.drain_laws.proofs.Lent.{lent_rest}
 
@@ -82,10 +83,6 @@ module _ (net : Net) (h : Rest net none net) where
   transmit_rest None = h
   transmit_rest (Some l) = transmitted_rest net h l
 
-  take_rest : (o : Option LiveList) → OutcomeLeaves (take_of net o)
-  take_rest None = h
-  take_rest (Some l) = plain_rest net net none (row.CrossOut (cross_no net.next.message) (out.Down l.list) l.frames) refl h
-
   done_rest : (s : ListStatus) (o : Option LiveList) → OutcomeLeaves (done_of net s o)
   done_rest s None = h
   done_rest s (Some l) = homeward_rest net net none none net.modules l.list l.owner l.direction (position net.modules.order Miniport) s (closes_none l.list.0) h
@@ -93,60 +90,65 @@ module _ (net : Net) (h : Rest net none net) where
   -- a message that was kept is taken: the lists stay
   taken_rest : (binding vlan : ℕ) (o : Option Message) → Rest net none (after_rows (told net (event.CrossTakeUp binding vlan) (take_up_of net o).reply) (take_up_of net o).rows)
   taken_rest binding vlan None = h
-  taken_rest binding vlan (Some m) = record { numbered = record { apart = h.numbered.apart; below = h.numbered.below }; each = h.each }
+  taken_rest binding vlan (Some m) = record { numbered = record { apart = h.numbered.apart; below = h.numbered.below }; each = h.each; free = h.free }
 
-  plain_event : (e : Event) (c : Choice) → is_plain e ≡ true → Rest net none (state_after net e (outcome net e c))
-  plain_event event.Initialize c p = cc
-  plain_event (event.Insert kind position setup) c p = cc
-  plain_event (event.Remove filter) c p = cc
-  plain_event (event.Replace filter kind setup) c p = cc
-  plain_event event.BeginPause c p = cc
-  plain_event event.PauseNext c p = cc
-  plain_event event.RestartNext c p = cc
-  plain_event event.Halt c p = cc
-  plain_event (event.Send binding cancel frames) c p =
+  plain_event : (e : Event) (c : Choice) → is_plain e ≡ true → is_take e ≡ false → Rest net none (state_after net e (outcome net e c))
+  plain_event event.Initialize c p t = cc
+  plain_event (event.Insert kind position setup) c p t = cc
+  plain_event (event.Remove filter) c p t = cc
+  plain_event (event.Replace filter kind setup) c p t = cc
+  plain_event event.BeginPause c p t = cc
+  plain_event event.PauseNext c p t = cc
+  plain_event event.RestartNext c p t = cc
+  plain_event event.Halt c p t = cc
+  plain_event (event.Send binding cancel frames) c p t =
       by_test OutcomeLeaves (phase_is_running net.phase) _ _
       (λ _. by_test OutcomeLeaves (is_full net (Binding binding)) _ _ (λ _. h) (λ _. root_rest net (Binding binding) direction.Down cancel frames 0 refl h))
       (λ _. h)
-  plain_event (event.Indicate frames) c p =
+  plain_event (event.Indicate frames) c p t =
       by_test OutcomeLeaves (is_running net.modules.miniport) _ _
       (λ _. by_test OutcomeLeaves (is_full net Miniport) _ _ (λ _. h) (λ _. root_rest net Miniport direction.Up None frames (position net.modules.order Miniport) refl h))
       (λ _. h)
-  plain_event (event.Lend frames) c p =
+  plain_event (event.Lend frames) c p t =
       by_test OutcomeLeaves (is_running net.modules.miniport) _ _
       (λ _. by_test OutcomeLeaves (is_full net Miniport) _ _ (λ _. h) (λ _. lent_rest net frames h))
       (λ _. h)
-  plain_event (event.GiveBack binding list) c p = give_back_rest binding (list_of list.0 (lists net.things))
-  plain_event (event.Cancel id) c p = cancel_rest net h id
-  plain_event (event.Ask binding kind code value) c p =
+  plain_event (event.GiveBack binding list) c p t = give_back_rest binding (list_of list.0 (lists net.things))
+  plain_event (event.Cancel id) c p t = cancel_rest net h id
+  plain_event (event.Ask binding kind code value) c p t =
       by_test OutcomeLeaves (is_unbound (state_of net (Binding binding))) _ _ (λ _. h) (λ _. plain_rest net net none (row.OidIssue (oid_no net.next.request) None binding kind code value) refl h)
-  plain_event (event.Status name) c p = by_test OutcomeLeaves (is_halted net.modules.miniport) _ _ (λ _. h)
+  plain_event (event.Status name) c p t = by_test OutcomeLeaves (is_halted net.modules.miniport) _ _ (λ _. h)
       (λ _. plain_rest net net none (row.Status (status_no net.next.status) name (next_status net.modules (position net.modules.order Miniport))) refl h)
-  plain_event event.Transmit c p = transmit_rest (first_in_ring net)
-  plain_event event.Pump c p = pump_rest net c.keeps h
-  plain_event event.Drain c p = drain_rest net h c.keeps
-  plain_event event.CrossTake c p = take_rest (first_uncrossed net)
-  plain_event (event.CrossPut stack message vlan frames) c p =
+  plain_event event.Transmit c p t = transmit_rest (first_in_ring net)
+  plain_event event.Pump c p t = pump_rest net c.keeps h
+  plain_event event.Drain c p t = drain_rest net h c.keeps
+  plain_event event.CrossTake c p t = cc
+  plain_event (event.CrossPut stack message vlan frames) c p t =
       by_test OutcomeLeaves (phase_is_running net.phase) _ _
       (λ _. by_test OutcomeLeaves (list_any (grows_too_long net.head) frames) _ _ (λ _. h)
       (λ _. by_test OutcomeLeaves (is_full net (Binding (mux_binding_for net.head stack))) _ _ (λ _. h)
       (λ _. root_rest net (Binding (mux_binding_for net.head stack)) direction.Down None (map (pushed vlan) frames) 0 refl h)))
       (λ _. h)
-  plain_event (event.CrossDone message status) c p = done_rest status _
-  plain_event (event.CrossTakeUp binding vlan) c p = taken_rest binding vlan _
-  plain_event (event.CrossPutUp stack message frames) c p =
+  plain_event (event.CrossDone message status) c p t = done_rest status _
+  plain_event (event.CrossTakeUp binding vlan) c p t = taken_rest binding vlan _
+  plain_event (event.CrossPutUp stack message frames) c p t =
       by_test OutcomeLeaves (is_running net.modules.miniport) _ _
       (λ _. by_test OutcomeLeaves (is_full net Miniport) _ _ (λ _. h)
       (λ _. root_rest net Miniport direction.Up None frames (position net.modules.order Miniport) refl h))
       (λ _. h)
 
--- rows that tell states, none of them Detached: each filter stays of its kind
-abbrev is_gentle : Row → Bool
+-- a list is taken to another stack
+take_rest : (net : Net) (o : Option LiveList) → Rest net none net → Rest (after_rows net (take_of net o).rows) none (after_rows net (take_of net o).rows)
+take_rest net None h = h
+take_rest net (Some l) h = cross_rest net l.list (cross_no net.next.message) l.frames h
+
+-- rows that tell states, none of them Detached or Halted: each filter stays of its kind
+abbrev pub is_gentle : Row → Bool
 is_gentle (row.Phase (of.Module m s)) = not (is_detached s)
-is_gentle (row.Phase (of.Stack p)) = true
+is_gentle (row.Phase (of.Stack p)) = not (phase_is_halted p)
 is_gentle _ = false
 
-abbrev AreGentle : List Row → Type 0
+abbrev pub AreGentle : List Row → Type 0
 AreGentle [] = Unit {0}
 AreGentle (r ∷ rows) = (is_gentle r ≡ true) × AreGentle rows
 
@@ -186,13 +188,13 @@ gentle_rows : (net : Net) (rows : List Row) → AreGentle rows → (f : ℕ) →
 gentle_rows net [] g f = refl
 gentle_rows net (r ∷ rows) g f = gentle_rows (after net r) rows g.1 f ∙ gentle_holds net r g.0 f
 
-abbrev IsGentle : Outcome → Type 0
+abbrev pub IsGentle : Outcome → Type 0
 IsGentle o = AreGentle o.rows
 
-begin_gentle : (net : Net) → IsGentle (begin_outcome net)
+pub begin_gentle : (net : Net) → IsGentle (begin_outcome net)
 begin_gentle net = by_test IsGentle (phase_is_running net.phase) _ _ (λ _. (refl, gentle_states state.Pausing (binding_ids 0 net.modules.bindings) refl)) (λ _. tt)
 
-pause_gentle : (net : Net) → IsGentle (pause_outcome net)
+pub pause_gentle : (net : Net) → IsGentle (pause_outcome net)
 pause_gentle net =
     let i : ℕ = first_unpaused net in
     by_test IsGentle (phase_is_pausing net.phase) _ _
@@ -202,7 +204,7 @@ pause_gentle net =
     (λ _. tt))
     (λ _. tt)
 
-restart_gentle : (net : Net) → IsGentle (restart_outcome net)
+pub restart_gentle : (net : Net) → IsGentle (restart_outcome net)
 restart_gentle net =
     let i : ℕ = running_floors net in
     let ms : List ModuleId = slice_index_or (reverse (floors net.modules)) i [] in
@@ -225,14 +227,19 @@ fine_by : (base other : Net) (cloned : ℕ → Bool) (l : LiveList) → other.he
 fine_by base other cloned l e f (inl o) = inl o
 fine_by base other cloned l e f (inr r) = inr (rests_by base other (cloned l.list.0) l.stand e f r)
 
-rest_by : (base other next : Net) → other.head ≡ base.head → ((f : ℕ) → holds_lists other.modules f ≡ holds_lists base.modules f) → Rest base none next → Rest other none next
-rest_by base other next e f h = record { numbered = h.numbered; each = Each-implies _ _ (λ l r. fine_by base other (has_clone next) l e f r) (lists next.things) h.each }
+rest_by : (base next : Net) → next.head ≡ base.head → ((f : ℕ) → holds_lists next.modules f ≡ holds_lists base.modules f) → Rest base none next → Rest next none next
+rest_by base next e f h = record {
+  numbered = h.numbered;
+  each = Each-implies _ _ (λ l r. fine_by base next (has_clone next) l e f r) (lists next.things) h.each;
+  free = λ g. g;
+}
 
 -- the same lists
 same_lists : (base net next : Net) → next.things ≡ net.things → next.next.list ≡ net.next.list → Rest base none net → Rest base none next
 same_lists base net next e n h = record {
   numbered = record { apart = subst (λ ts. IsApart (lists ts)) (sym e) h.numbered.apart; below = subst (λ ts. IsBelow next.next.list (lists ts)) (sym e) (subst (λ k. IsBelow k (lists net.things)) (sym n) h.numbered.below) };
   each = subst (λ ts. Each (Fine base none (λ k. list_any (λ l. is_clone_of k l.origin) (lists ts))) (lists ts)) (sym e) h.each;
+  free = λ f. subst (λ ts. Each (λ l. is_crossed l.crossed ≡ false) (lists ts)) (sym e) (h.free f);
 }
 
 -- no list is live
@@ -240,6 +247,7 @@ no_lists : (base next : Net) → lists next.things ≡ [] → Rest base none nex
 no_lists base next e = record {
   numbered = record { apart = subst IsApart (sym e) tt; below = subst (IsBelow next.next.list) (sym e) tt };
   each = subst (Each (Fine base none (has_clone next))) (sym e) tt;
+  free = λ f. subst (Each (λ l. is_crossed l.crossed ≡ false)) (sym e) tt;
 }
 
 -- an event that is gentle
@@ -249,7 +257,7 @@ gentle_event net e c s p t g h =
     let changed : IsChanged net next s = event_kept net s e c p in
     let kinds : (f : ℕ) → holds_lists next.modules f ≡ holds_lists net.modules f =
     λ f. ap (λ (m : Net). holds_lists (after_rows m (outcome net e c).rows).modules f) (t (outcome net e c).reply) ∙ gentle_rows net (outcome net e c).rows g f in
-    rest_by net next next changed.head kinds (same_lists net net next changed.things changed.list h)
+    rest_by net next changed.head kinds (same_lists net net next changed.things changed.list h)
 
 -- an event of a stack without lists
 empty_event : (net : Net) (e : Event) (c : Choice) (s : IsShaped net) → is_plain e ≡ false → lists net.things ≡ [] → Rest (state_after net e (outcome net e c)) none (state_after net e (outcome net e c))
@@ -289,10 +297,18 @@ event_rests net e c held h = cases (is_plain e) refl
     other q phase.Running i = busy q (refused_by net e c q (ap phase_is_paused i) (ap phase_is_halted i))
     other q phase.Pausing i = busy q (refused_by net e c q (ap phase_is_paused i) (ap phase_is_halted i))
 
-    cases : (b : Bool) → is_plain e ≡ b → Rest (state_after net e (outcome net e c)) none (state_after net e (outcome net e c))
-    cases true p =
+    takes : (e : Event) → is_take e ≡ true → Rest (state_after net e (outcome net e c)) none (state_after net e (outcome net e c))
+    takes event.CrossTake t = take_rest net (first_uncrossed net) h
+    takes _ t = cc
+
+    by_take : (b : Bool) → is_take e ≡ b → is_plain e ≡ true → Rest (state_after net e (outcome net e c)) none (state_after net e (outcome net e c))
+    by_take true t p = takes e t
+    by_take false t p =
         let same : IsSame net (state_after net e (outcome net e c)) = plain_same net e c p in
-        rest_by net (state_after net e (outcome net e c)) (state_after net e (outcome net e c)) same.head (λ f. ap (λ ms. holds_lists ms f) same.modules) (plain_event net h e c p)
+        rest_by net (state_after net e (outcome net e c)) same.head (λ f. ap (λ ms. holds_lists ms f) same.modules) (plain_event net h e c p t)
+
+    cases : (b : Bool) → is_plain e ≡ b → Rest (state_after net e (outcome net e c)) none (state_after net e (outcome net e c))
+    cases true p = by_take (is_take e) refl p
     cases false p = other p net.phase refl
 
 turn_rests : (net : Net) (turn : Turn) → Next net turn → IsHeld net → Rest net none net → Rest (after_turn net turn) none (after_turn net turn)

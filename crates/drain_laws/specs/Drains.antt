@@ -1,5 +1,5 @@
 -- What is promised of a pause and its drains.
-use Rattle.std.specs.Prelude.{◌≡◌, ℕ, ◌&&◌, ◌≤◌, Bool, true, false, List, ◌++◌, length, count_by}
+use Rattle.std.specs.Prelude.{◌≡◌, ℕ, ◌+◌, ◌*◌, ◌&&◌, ◌≤◌, Bool, true, false, List, [], ◌∷◌, ◌++◌, length, count_by}
 use Rattle.std.specs.List.{All}
 use Rattle.ndis_base.specs.declared.Phase.TheVariants.{Pausing}
 use Rattle.journal_types.specs.declared.Event.{Event}
@@ -8,9 +8,11 @@ use Rattle.journal_types.specs.declared.Reply.{Reply}
 use Rattle.journal_types.specs.declared.Reply.TheVariants as reply
 use Rattle.journal_types.specs.declared.StackHead.{StackHead}
 use Rattle.journal_types.specs.declared.Turn.{Turn}
-use Rattle.stack_rules.specs.Net.{seen}
-use Rattle.stack_rules.specs.Sound.{Sound}
+use Rattle.stack_rules.specs.Net.{Net, lists, seen}
+use Rattle.stack_rules.specs.Places.{is_crossed}
+use Rattle.stack_rules.specs.Sound.{Next, Sound}
 use Rattle.stack_rules.specs.Work.{work}
+use Rattle.rule_basics.specs.Live.{Each}
 use Rattle.work_laws.specs.Bounds.{is_drain}
 
 -- the events by which a stack that pauses becomes empty
@@ -33,3 +35,39 @@ abbrev pub DrainsAreBounded : Type 0
 DrainsAreBounded =
     (head : StackHead) (turns more : List Turn) → Sound head (turns ++ more) → 1 ≤ length head.bindings → (seen head turns).phase ≡ Pausing →
     All (λ turn. is_draining turn.event ≡ true) more → count_by drains_some more ≤ work (seen head turns)
+
+abbrev pub is_idle : Reply → Bool
+is_idle reply.Idle = true
+is_idle _ = false
+
+-- no live list has crossed to another stack
+abbrev pub NoneCrossed : Net → Type 0
+NoneCrossed net = Each (λ l. is_crossed l.crossed ≡ false) (lists net.things)
+
+-- While a stack pauses, and no list of it has crossed, a drain is idle only where no list is live.
+abbrev pub IdleIsEmpty : Type 0
+IdleIsEmpty =
+    (head : StackHead) (turns : List Turn) (turn : Turn) → Sound head turns → Next (seen head turns) turn → 1 ≤ length head.bindings → (seen head turns).phase ≡ Pausing → NoneCrossed (seen head turns) →
+    turn.event ≡ event.Drain → turn.reply ≡ reply.Idle → lists (seen head turns).things ≡ []
+
+abbrev pub is_waiting : Reply → Bool
+is_waiting (reply.Waiting n) = true
+is_waiting _ = false
+
+abbrev pub ends_pause : Reply → Bool
+ends_pause reply.Paused = true
+ends_pause _ = false
+
+-- A pause as it is driven: a PauseNext, after each one that has to wait a drain, and nothing after the one by which
+-- the stack is Paused; due is whether a drain comes first.
+abbrev pub PausesAndDrains : Bool → List Turn → Type 0
+PausesAndDrains due [] = Unit {0}
+PausesAndDrains true (turn ∷ more) = (turn.event ≡ event.Drain) × PausesAndDrains false more
+PausesAndDrains false (turn ∷ more) = (turn.event ≡ event.PauseNext) × (ends_pause turn.reply ≡ true → more ≡ []) × PausesAndDrains (is_waiting turn.reply) more
+
+-- While a stack pauses, and no list of it has crossed, such a pause takes at most two turns for each unit of the work
+-- and one for each position.
+abbrev pub PausesInTime : Type 0
+PausesInTime =
+    (head : StackHead) (turns more : List Turn) → Sound head (turns ++ more) → 1 ≤ length head.bindings → (seen head turns).phase ≡ Pausing → NoneCrossed (seen head turns) → PausesAndDrains false more →
+    length more ≤ 2 * work (seen head turns) + (length (seen head turns).modules.order + 2)

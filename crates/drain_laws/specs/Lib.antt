@@ -1,2 +1,3 @@
 pub mod Drains
 pub mod Resting
+pub mod Serving

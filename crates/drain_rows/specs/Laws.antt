@@ -9,7 +9,7 @@ use Rattle.stack_rules.specs.Tests.{phase_is_running}
 use Rattle.stack_rules.specs.Net.{Net, after_turn, seen}
 use Rattle.stack_rules.specs.Work.{work}
 use Rattle.work_laws.specs.Bounds.{is_pause}
-use Rattle.drain_laws.specs.Drains.{drains_some}
+use Rattle.drain_laws.specs.Drains.{drains_some, EndsInTime}
 
 -- at each turn of a journal, in the state after those before it
 abbrev pub EachTurn : StackHead → List Turn → (Net → Turn → Type 0) → Type 0
@@ -31,3 +31,4 @@ pub record MeetsLaws (head : StackHead) (turns more : List Turn) : Type 0 where
   pub drains : EachTurn head (turns ++ more) (LowersWorkWhileStill Drain)
   pub pauses : EachTurn head (turns ++ more) PauseAddsNothing
   pub bounded : count_by drains_some more ≤ work (seen head turns)
+  pub in_time : EndsInTime (seen head turns) more

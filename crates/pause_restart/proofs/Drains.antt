@@ -30,7 +30,8 @@ use Rattle.held_lists.proofs.Tells.{oldest_kept, none_kept}
 use Rattle.stack_book.specs.Views.{BookView}
 use Rattle.stack_book.specs.Stands.{Stands, DriversFit, IsShort, Writes}
 use Rattle.stack_book.specs.Turns.{Acts}
-use Rattle.pause_restart.proofs.Pauses.{rows_act, answers_act}
+use Rattle.stack_book.proofs.Turns.{answers_alone}
+use Rattle.pause_restart.proofs.Pauses.{rows_act}
 
 -- the bytes of frames
 bytes_most : (fs : List (List ℕ)) → All (λ f. length f ≤ 1518) fs → frames_bytes fs ≤ length fs * 1518
@@ -94,7 +95,7 @@ halted_acts b h still p =
     let net : Net = b.core.tray.net in
     let f : PhaseFits net phase.Halted = fits_at net phase.Halted h p in
     let none : kept_lists net Miniport ≡ [] = ap (λ (ts : List Thing). filter (λ (l : LiveList). is_kept_by Miniport l.stand) (lists ts)) f.1.1 in
-    answers_act b (drain_outcome net false) reply.Idle (drain_idle net false h (pump_still net h still) none) tt
+    answers_alone b (drain_outcome net false) reply.Idle (drain_idle net false h (pump_still net h still) none) tt
 
 -- the miniport is set up
 pub set_up_on : (b : BookView) (p : Phase) → DriversFit b p → (p ≡ phase.Halted → ⊥) → b.miniport.port ≡ Some b.core.head.port

@@ -11,6 +11,7 @@ use Rattle.stack_rules.specs.Sound.{Next, outcome}
 use Rattle.stack_rules.specs.Conditions.{may_ask}
 use Rattle.stack_core.specs.Core.{Follows, Finishes, turn_of}
 use Rattle.stack_book.specs.Views.{BookView}
+use Rattle.stack_book.specs.Drivers.{KeepsDrivers}
 use Rattle.stack_book.specs.Stands.{IsReady}
 use Rattle.stack_book.specs.Turns.{Acts, AddsTurn}
 use Rattle.stack_book.proofs.Turns.{Answered, finish_next, adds}
@@ -37,5 +38,5 @@ pub next_turn : {old now : BookView} {asked : Asked} {answer : Reply} {o : Outco
 next_turn {old} {now} {asked} {answer} {o} said a same = subst (λ r. Next (seen now.core.head now.core.turns) (turn_of now.core asked r)) (sym same) (finish_next a)
 
 pub adds_turn : {old now : BookView} {asked : Asked} {answer : Reply} {o : Outcome} (new : BookView) (said : Reply) → Answered old now asked answer o → said ≡ answer
-    → Finishes now.core new.core asked said → AddsTurn old new asked answer
-adds_turn {old} {now} {asked} {answer} {o} new said a same f = adds a (subst (λ r. Finishes now.core new.core asked r) same f)
+    → Finishes now.core new.core asked said → KeepsDrivers now new → AddsTurn old new asked answer
+adds_turn {old} {now} {asked} {answer} {o} new said a same f keeps = adds a (subst (λ r. Finishes now.core new.core asked r) same f) keeps

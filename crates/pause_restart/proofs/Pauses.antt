@@ -1,5 +1,5 @@
 -- A pause that goes on.
-use Rattle.std.proofs.Common.{◌≡◌, ℕ, ◌+◌, ◌*◌, ◌<◌, ◌≤◌, ◌==◌, false, cond, List, [], ◌∷◌, ◌++◌, length, refl, arith, ap, sym, subst, ◌∙◌, sum_by, inl, inr, append-nil}
+use Rattle.std.proofs.Common.{◌≡◌, ℕ, ◌+◌, ◌*◌, ◌<◌, ◌≤◌, ◌==◌, false, cond, List, [], ◌∷◌, ◌++◌, length, refl, arith, ap, sym, subst, ◌∙◌, sum_by, inl, inr}
 use Rattle.std.proofs.lemmas.Bool.Decides.{nat_tests}
 use Rattle.std.proofs.lemmas.List.{nil_from_length, length-append}
 use Rattle.std.proofs.lemmas.List.Sums.{sum_by-cons}
@@ -28,18 +28,12 @@ use Rattle.stack_book.specs.Views.{BookView}
 use Rattle.stack_book.specs.Stands.{Writes}
 use Rattle.stack_book.specs.Turns.{IsShortReply, Acts}
 use Rattle.stack_book.proofs.Phases.{few_bindings}
+use Rattle.stack_book.proofs.Turns.{answers_alone}
 
 -- rows that were written are those of the outcome
 pub rows_act : (b b' : BookView) (o : Outcome) (r : Reply) (rows : List Row) → o ≡ answers_with r rows → IsShortReply r → Writes b b' rows → length rows ≤ 64 → sum_by row_bytes rows ≤ 20000 → Acts b b' o r
 rows_act b b' o r rows is short writes few bytes =
     subst (λ x. Acts b b' x r) (sym is) (record { answer_is = refl; plain = short; writes = writes; few = few; bytes = bytes })
-
--- nothing was written
-pub writes_nothing : (b : BookView) → Writes b b []
-writes_nothing b = record { head = refl; turns = refl; net = refl; rows = sym (append-nil b.core.tray.rows); room = omega arith; row_room = refl; byte_room = refl }
-
-pub answers_act : (b : BookView) (o : Outcome) (r : Reply) → o ≡ answered r → IsShortReply r → Acts b b o r
-answers_act b o r is short = rows_act b b o r [] is short (writes_nothing b) (omega arith) (omega arith)
 
 -- rows of states have no bytes
 state_bytes : (s : ModuleState) (ms : List ModuleId) (rest : List Row) → sum_by row_bytes rest ≡ 0 → sum_by row_bytes (state_rows (s ∷ []) ms ++ rest) ≡ 0
@@ -60,7 +54,7 @@ waits_there net i n e some =
 pub waiting_acts : (b : BookView) (i n : ℕ) → b.core.tray.net.phase ≡ phase.Pausing → i ≡ first_unpaused b.core.tray.net → n ≡ outstanding b.core.tray.net i → 0 < n
     → Acts b b (pause_outcome b.core.tray.net) (reply.Waiting n)
 waiting_acts b i n p at e some =
-    answers_act b (pause_outcome b.core.tray.net) (reply.Waiting n) (pause_there b.core.tray.net i p at ∙ waits_there b.core.tray.net i n e some) tt
+    answers_alone b (pause_outcome b.core.tray.net) (reply.Waiting n) (pause_there b.core.tray.net i p at ∙ waits_there b.core.tray.net i n e some) tt
 
 wrong_phase : (p : Phase) (at : Outcome) → (p ≡ phase.Pausing → ⊥) → cond (phase_is_pausing p) at (refused (refusal.WrongPhase p)) ≡ refused (refusal.WrongPhase p)
 wrong_phase phase.Halted at not = refl
@@ -75,7 +69,7 @@ refused_acts b p e not =
     let net : Net = b.core.tray.net in
     let is : pause_outcome net ≡ refused (refusal.WrongPhase p) =
     ap (λ q. cond (phase_is_pausing q) (pause_at net (first_unpaused net)) (refused (refusal.WrongPhase q))) (sym e) ∙ wrong_phase p (pause_at net (first_unpaused net)) not in
-    answers_act b (pause_outcome net) (reply.Refused (refusal.WrongPhase p)) is tt
+    answers_alone b (pause_outcome net) (reply.Refused (refusal.WrongPhase p)) is tt
 
 -- the bindings are Paused
 top_is : (net : Net) (i : ℕ) → IsFirst net → net.phase ≡ phase.Pausing → i ≡ first_unpaused net → 0 ≡ outstanding net i → i ≡ 0 → pause_outcome net ≡ answers_with reply.Next (paused_rows net 0)

@@ -1,20 +1,23 @@
 -- What initialising, beginning a pause, restarting and halting write and answer.
-use Rattle.std.proofs.Common.{◌≡◌, ◌+◌, ◌*◌, ◌≤◌, false, List, [], ◌∷◌, ◌++◌, length, sum_by, refl, sym, ap, ◌∙◌, arith, subst, length-append}
+use Rattle.std.proofs.Common.{◌≡◌, ℕ, ◌+◌, ◌*◌, ◌≤◌, ◌==◌, ◌||◌, Bool, false, cond, List, [], ◌∷◌, ◌++◌, length, sum_by, refl, sym, ap, ◌∙◌, arith, subst, length-append}
 use Rattle.std.proofs.lemmas.List.Sums.{sum_by-cons}
 use Rattle.std.proofs.Math.Nat.{mul-le-mul_left}
 use Rattle.ndis_base.specs.declared.ModuleId.TheVariants.{Miniport}
 use Rattle.ndis_base.specs.declared.ModuleState.{ModuleState}
 use Rattle.ndis_base.specs.declared.ModuleState.TheVariants as state
+use Rattle.ndis_base.specs.declared.Phase.{Phase}
 use Rattle.ndis_base.specs.declared.Phase.TheVariants as phase
 use Rattle.journal_types.specs.declared.PhaseOf.TheVariants as of
 use Rattle.journal_types.specs.declared.Reply.{Reply}
 use Rattle.journal_types.specs.declared.Reply.TheVariants as reply
+use Rattle.journal_types.specs.declared.Refusal.TheVariants as refusal
 use Rattle.journal_types.specs.declared.Row.{Row}
 use Rattle.journal_types.specs.declared.Row.TheVariants as row
 use Rattle.journal_types.specs.Sizes.{row_bytes}
+use Rattle.stack_rules.specs.Tests.{phase_is_halted, phase_is_paused, phase_is_running, phase_is_restarting}
 use Rattle.stack_rules.specs.Net.{Net}
-use Rattle.stack_rules.specs.Outcome.{Outcome, config_no}
-use Rattle.stack_rules.specs.Pauses.{state_row, state_rows, binding_ids, initialize_rows, restart_rows, halt_rows, initialize_outcome, begin_outcome, restart_outcome, halt_outcome}
+use Rattle.stack_rules.specs.Outcome.{Outcome, refused, config_no}
+use Rattle.stack_rules.specs.Pauses.{state_row, state_rows, binding_ids, initialize_rows, restart_rows, halt_rows, initialize_outcome, begin_outcome, restart_outcome, restart_at, running_floors, halt_outcome, halt_items}
 use Rattle.first_form.specs.First.{IsFirst, PhaseFits}
 use Rattle.first_form.proofs.Kept.{fits_at}
 use Rattle.first_form.proofs.Phases.{low_rows, high_rows, halt_is}
@@ -24,6 +27,7 @@ use Rattle.stack_book.specs.Views.{BookView}
 use Rattle.stack_book.specs.Events.{begin_rows}
 use Rattle.stack_book.specs.Stands.{Writes}
 use Rattle.stack_book.specs.Turns.{Acts, IsShortReply}
+use Rattle.stack_book.proofs.Turns.{answers_alone}
 use Rattle.stack_book.proofs.Phases.{IsQuiet, quiet_states, quiet_all, few_bindings, nothing_paused}
 
 abbrev Answers : Reply → List Row → Outcome
@@ -122,6 +126,60 @@ pub halt_acts : (b b' : BookView) → IsFirst b.core.tray.net → b.core.tray.ne
 halt_acts b b' first was w =
     acts_from b b' (halt_outcome b.core.tray.net) reply.Halted (halt_rows b.core.tray.net) (halts b.core.tray.net first was (nothing_paused b.core.tray.net first was)) tt w (halt_short b.core.tray.net first)
 
+-- tests of a phase that is another
+not_halted : (p : Phase) → (p ≡ phase.Halted → ⊥) → phase_is_halted p ≡ false
+not_halted phase.Halted not = absurd (not refl)
+not_halted phase.Paused not = refl
+not_halted phase.Restarting not = refl
+not_halted phase.Running not = refl
+not_halted phase.Pausing not = refl
+
+not_running : (p : Phase) → (p ≡ phase.Running → ⊥) → phase_is_running p ≡ false
+not_running phase.Halted not = refl
+not_running phase.Paused not = refl
+not_running phase.Restarting not = refl
+not_running phase.Running not = absurd (not refl)
+not_running phase.Pausing not = refl
+
+not_paused : (p : Phase) → (p ≡ phase.Paused → ⊥) → phase_is_paused p ≡ false
+not_paused phase.Halted not = refl
+not_paused phase.Paused not = absurd (not refl)
+not_paused phase.Restarting not = refl
+not_paused phase.Running not = refl
+not_paused phase.Pausing not = refl
+
+neither : (p : Phase) → (p ≡ phase.Paused → ⊥) → (p ≡ phase.Restarting → ⊥) → (phase_is_paused p || phase_is_restarting p) ≡ false
+neither phase.Halted not other = refl
+neither phase.Paused not other = absurd (not refl)
+neither phase.Restarting not other = absurd (other refl)
+neither phase.Running not other = refl
+neither phase.Pausing not other = refl
+
+-- what is answered by a test of the phase
+abbrev tested : (Phase → Bool) → Outcome → Phase → Outcome
+tested test at p = cond (test p) at (refused (refusal.WrongPhase p))
+
+-- an event that the phase refuses
+refused_by : (b : BookView) (test : Phase → Bool) (at : Outcome) (p : Phase) → p ≡ b.core.tray.net.phase → test p ≡ false → Acts b b (tested test at b.core.tray.net.phase) (reply.Refused (refusal.WrongPhase p))
+refused_by b test at p read fails =
+    answers_alone b (tested test at b.core.tray.net.phase) (reply.Refused (refusal.WrongPhase p))
+    (ap (tested test at) (sym read) ∙ ap (λ t. cond t at (refused (refusal.WrongPhase p))) fails) tt
+
+pub initialize_refused : (b : BookView) (p : Phase) → p ≡ b.core.tray.net.phase → (p ≡ phase.Halted → ⊥) → Acts b b (initialize_outcome b.core.tray.net false) (reply.Refused (refusal.WrongPhase p))
+initialize_refused b p read not = refused_by b phase_is_halted (Answers reply.Ok (initialize_rows b.core.tray.net)) p read (not_halted p not)
+
+pub begin_refused : (b : BookView) (p : Phase) → p ≡ b.core.tray.net.phase → (p ≡ phase.Running → ⊥) → Acts b b (begin_outcome b.core.tray.net) (reply.Refused (refusal.WrongPhase p))
+begin_refused b p read not = refused_by b phase_is_running (Answers reply.Ok (begin_rows b.core.tray.net)) p read (not_running p not)
+
+pub restart_refused : (b : BookView) (p : Phase) → p ≡ b.core.tray.net.phase → (p ≡ phase.Paused → ⊥) → (p ≡ phase.Restarting → ⊥) → Acts b b (restart_outcome b.core.tray.net) (reply.Refused (refusal.WrongPhase p))
+restart_refused b p read not other =
+    refused_by b (λ p. phase_is_paused p || phase_is_restarting p) (restart_at b.core.tray.net (running_floors b.core.tray.net)) p read (neither p not other)
+
+pub halt_refused : (b : BookView) (p : Phase) → p ≡ b.core.tray.net.phase → (p ≡ phase.Paused → ⊥) → Acts b b (halt_outcome b.core.tray.net) (reply.Refused (refusal.WrongPhase p))
+halt_refused b p read not =
+    let n : ℕ = halt_items b.core.tray.net in
+    refused_by b phase_is_paused (cond (n == 0) (Answers reply.Halted (halt_rows b.core.tray.net)) (refused (refusal.Busy n))) p read (not_paused p not)
+
 -- the phase that was read
-pub phase_read : (net now : Net) (p q : Rattle.ndis_base.specs.declared.Phase.Phase) → now ≡ net → p ≡ now.phase → p ≡ q → net.phase ≡ q
+pub phase_read : (net now : Net) (p q : Phase) → now ≡ net → p ≡ now.phase → p ≡ q → net.phase ≡ q
 phase_read net now p q e f g = ap (λ (n : Net). n.phase) (sym e) ∙ sym f ∙ g

@@ -1,5 +1,6 @@
 -- The laws at the journal of a whole run.
 use Rattle.std.proofs.Common.{◌≡◌, List, [], ◌∷◌, ◌++◌, refl, ap, sym, subst, ◌∙◌}
+use Rattle.ndis_base.specs.declared.Phase.{Phase}
 use Rattle.ndis_base.specs.declared.Phase.TheVariants as phase
 use Rattle.journal_types.specs.declared.Row.{Row}
 use Rattle.journal_types.specs.declared.StackHead.{StackHead}
@@ -16,8 +17,8 @@ use Rattle.ended_laws.proofs.Ended.{each_is_home}
 use Rattle.script_runs.specs.Laws.{MeetsLaws}
 
 -- between two turns the state is what the journal shows
-pub halted_journal : (head : StackHead) (turns : List Turn) (net : Net) (rows : List Row) → Follows head turns net rows → rows ≡ [] → net.phase ≡ phase.Halted → (seen head turns).phase ≡ phase.Halted
-halted_journal head turns net rows f idle at =
+pub journal_at : (head : StackHead) (turns : List Turn) (net : Net) (rows : List Row) (p : Phase) → Follows head turns net rows → rows ≡ [] → net.phase ≡ p → (seen head turns).phase ≡ p
+journal_at head turns net rows p f idle at =
     let same : net ≡ seen head turns = f.state ∙ ap (after_rows (seen head turns)) idle in
     ap (λ (n : Net). n.phase) (sym same) ∙ at
 

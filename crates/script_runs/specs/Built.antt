@@ -1,6 +1,7 @@
 -- Which scripts can be run, and what their run gives.
 use Rattle.std.specs.Prelude.{◌≡◌, ℕ, ◌==◌, ◌&&◌, Bool, true, false, List, [], ◌∷◌, Option, Some, length}
 use Rattle.std.specs.List.{list_all}
+use Rattle.ndis_base.specs.declared.LaneNo.{LaneNo}
 use Rattle.ndis_base.specs.declared.MiniportKind.{MiniportKind}
 use Rattle.ndis_base.specs.declared.MiniportKind.TheVariants as miniport_kind
 use Rattle.ndis_base.specs.declared.ProtocolKind.{ProtocolKind}
@@ -16,6 +17,7 @@ use Rattle.script_types.specs.declared.StackSetup.{StackSetup}
 use Rattle.script_types.specs.declared.FilterSetup.{FilterSetup}
 use Rattle.script_types.specs.declared.Call.{Call}
 use Rattle.script_events.specs.Events.{event_of}
+use Rattle.promise_rules.specs.Followed.{IsFollowed, IsOpenedAndEnded}
 use Rattle.script_runs.specs.Laws.{MeetsLaws}
 
 -- the head of the journal of a script's only stack
@@ -46,8 +48,9 @@ is_built_event head (Some event.Pump) = true
 is_built_event head (Some event.Drain) = true
 is_built_event head _ = false
 
+-- a call of the only stack
 abbrev pub is_built_call : StackHead → Call → Bool
-is_built_call head c = is_built_event head (event_of c.kind)
+is_built_call head c = (c.stack == 0) && is_built_event head (event_of c.kind)
 
 abbrev pub are_built : List StackSetup → List Call → Bool
 are_built (s ∷ []) calls = is_built_stack s && list_all (is_built_call (head_of s)) calls
@@ -57,10 +60,13 @@ are_built _ calls = false
 abbrev pub is_built : Script → Bool
 is_built s = (s.lanes == 1) && are_built s.stacks s.calls
 
--- the journal of a run: of the script's stack, and sound; it ends Halted, and meets the laws
+-- the journal of a run: of the script's stack, and sound; it ends Halted, and meets the laws; each lane's
+-- calls stand there once and in order, each with its tail, between the opening and the ending
 pub record IsRun (script : Script) (head : StackHead) (turns : List Turn) : Type 0 where
   pub stack : StackSetup
   pub only : script.stacks ≡ stack ∷ []
   pub head_is : head ≡ head_of stack
   pub sound : Sound head turns
   pub laws : MeetsLaws head turns
+  pub followed : (lane : LaneNo) → IsFollowed script.stacks lane script.calls (turns ∷ [])
+  pub ended : IsOpenedAndEnded head [] turns

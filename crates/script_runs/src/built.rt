@@ -3,6 +3,7 @@ ghost use Rattle.std.specs.Prelude.{◌≡◌, IfOk};
 ghost use Rattle.std.specs.List.{list_all};
 ghost use Rattle.stack_rules.specs.Conditions.{is_cancel, is_frame, are_frames};
 ghost use Rattle.journal_types.specs.declared.StackHead.{StackHead};
+ghost use Rattle.script_events.specs.Events.{event_of};
 ghost use Rattle.script_runs.specs.Built as form;
 
 use journal_types::{BindingSetups, StackHead, UpperLinks};
@@ -53,7 +54,13 @@ fn are_built_calls(stack: &StackSetup, calls: &[Call]) -> bool
 fn is_built_call(stack: &StackSetup, call: &Call) -> bool
     ensures { result ≡ form.is_built_call (form.head_of stack.now) call.now }
 {
-    match &call.kind {
+    call.stack == 0 && is_built_kind(stack, &call.kind)
+}
+
+fn is_built_kind(stack: &StackSetup, kind: &CallKind) -> bool
+    ensures { result ≡ form.is_built_event (form.head_of stack.now) (event_of kind.now) }
+{
+    match kind {
         CallKind::Send {
             binding,
             cancel,

@@ -3,7 +3,9 @@ ghost use Rattle.std.specs.Prelude.{◌≡◌, true, OnOk, IfOk};
 ghost use Rattle.std.specs.List.{list_all};
 ghost use Rattle.ndis_base.specs.declared.Phase.TheVariants as phase;
 ghost use Rattle.stack_book.specs.Open.{AreIdle};
+ghost use Rattle.stack_runs.specs.Adds.{Adds};
 ghost use Rattle.stack_runs.specs.Runs.{IsBetween, IsAt, Runs};
+ghost use Rattle.script_runs.specs.Calls.{Makes, MakesAll, Ran};
 ghost use Rattle.script_runs.specs.Built as form;
 
 use crate::built::head_of;
@@ -64,10 +66,13 @@ fn run_whole(book: &mut Book, alloc: Global, calls: &[Call]) -> Result<(), OutOf
     requires built { list_all (form.is_built_call (⟦<Book as Shown>⟧.shown book.old).core.head) calls.now ≡ true }
     ensures between { IsBetween (⟦<Book as Shown>⟧.shown book.new) }
     ensures halted { OnOk result (Runs (⟦<Book as Shown>⟧.shown book.old) (⟦<Book as Shown>⟧.shown book.new) phase.Halted) }
+    ensures whole { OnOk result (Ran (⟦<Book as Shown>⟧.shown book.old).core.head calls.now (⟦<Book as Shown>⟧.shown book.old) (⟦<Book as Shown>⟧.shown book.new)) }
 {
     open_stack(book, alloc)?;
     run_calls(book, alloc, calls)?;
-    end_stack(book, alloc)
+    book.facts();
+    end_stack(book, alloc)?;
+    Ok(())
 }
 
 fn run_calls(book: &mut Book, alloc: Global, calls: &[Call]) -> Result<(), OutOfMemory>
@@ -75,12 +80,14 @@ fn run_calls(book: &mut Book, alloc: Global, calls: &[Call]) -> Result<(), OutOf
     requires built { list_all (form.is_built_call (⟦<Book as Shown>⟧.shown book.old).core.head) calls.now ≡ true }
     ensures between { IsBetween (⟦<Book as Shown>⟧.shown book.new) }
     ensures running { OnOk result (Runs (⟦<Book as Shown>⟧.shown book.old) (⟦<Book as Shown>⟧.shown book.new) phase.Running) }
+    ensures added { OnOk result (Adds (MakesAll calls.now) (⟦<Book as Shown>⟧.shown book.old) (⟦<Book as Shown>⟧.shown book.new)) }
 {
     let [call, more @ ..] = calls else {
         return Ok(());
     };
     run_one(book, alloc, call)?;
-    run_calls(book, alloc, more)
+    run_calls(book, alloc, more)?;
+    Ok(())
 }
 
 fn run_one(book: &mut Book, alloc: Global, call: &Call) -> Result<(), OutOfMemory>
@@ -88,9 +95,11 @@ fn run_one(book: &mut Book, alloc: Global, call: &Call) -> Result<(), OutOfMemor
     requires built { form.is_built_call (⟦<Book as Shown>⟧.shown book.old).core.head call.now ≡ true }
     ensures between { IsBetween (⟦<Book as Shown>⟧.shown book.new) }
     ensures running { OnOk result (Runs (⟦<Book as Shown>⟧.shown book.old) (⟦<Book as Shown>⟧.shown book.new) phase.Running) }
+    ensures added { OnOk result (Adds (Makes call.now) (⟦<Book as Shown>⟧.shown book.old) (⟦<Book as Shown>⟧.shown book.new)) }
 {
     let Some(event) = event_of_call(alloc, &call.kind)? else {
         unreachable!()
     };
-    run_call(book, alloc, call.lane, event, call.pump)
+    run_call(book, alloc, call.lane, event, call.pump)?;
+    Ok(())
 }

@@ -1,10 +1,11 @@
 -- What the events of this crate write is what the rules say.
-use Rattle.std.proofs.Common.{◌≡◌, ℕ, ◌+◌, ◌≤◌, Bool, true, false, not, List, [], ◌∷◌, Option, Some, None, IfSome, ◌⊎◌, inl, inr, length, map, sum_by, refl, sym, ap, ◌∙◌, subst, arith, All}
+use Rattle.std.proofs.Common.{◌≡◌, ℕ, ◌+◌, ◌≤◌, Bool, true, false, not, cond, List, [], ◌∷◌, Option, Some, None, IfSome, ◌⊎◌, inl, inr, length, map, filter, sum_by, refl, sym, ap, ◌∙◌, subst, arith, All}
 use Rattle.std.proofs.lemmas.List.Elements.{All-head}
 use Rattle.ndis_base.specs.declared.ListNo.{ListNo}
 use Rattle.ndis_base.specs.declared.ListStatus.{ListStatus}
 use Rattle.ndis_base.specs.declared.ModuleId.{ModuleId}
 use Rattle.ndis_base.specs.declared.ModuleId.TheVariants.{Miniport, Filter, Binding}
+use Rattle.ndis_base.specs.declared.Phase.{Phase}
 use Rattle.ndis_base.specs.declared.Phase.TheVariants as phase
 use Rattle.journal_types.specs.declared.PassWay.{PassWay}
 use Rattle.journal_types.specs.declared.PassWay.TheVariants as way
@@ -13,6 +14,7 @@ use Rattle.journal_types.specs.declared.Target.TheVariants.{Module, Bindings}
 use Rattle.journal_types.specs.declared.StackHead.{StackHead}
 use Rattle.journal_types.specs.declared.Reply.{Reply}
 use Rattle.journal_types.specs.declared.Reply.TheVariants as reply
+use Rattle.journal_types.specs.declared.Refusal.TheVariants as refusal
 use Rattle.journal_types.specs.declared.Row.{Row}
 use Rattle.journal_types.specs.declared.Row.TheVariants as row
 use Rattle.journal_types.specs.Sizes.{row_bytes, frames_bytes}
@@ -20,19 +22,22 @@ use Rattle.buffer_pools.specs.Views.{ListView, Fits}
 use Rattle.stack_rules.specs.declared.LiveList.{LiveList}
 use Rattle.stack_rules.specs.declared.Stand.{Stand}
 use Rattle.stack_rules.specs.declared.Stand.TheVariants as stand
+use Rattle.stack_rules.specs.declared.Thing.{Thing}
 use Rattle.stack_rules.specs.declared.Thing.TheVariants as thing
-use Rattle.stack_rules.specs.Net.{Net}
-use Rattle.stack_rules.specs.Places.{agenda_first, is_full, kept_lists}
-use Rattle.stack_rules.specs.Outcome.{Outcome, list_no}
+use Rattle.stack_rules.specs.Tests.{phase_is_running}
+use Rattle.stack_rules.specs.Net.{Net, lists}
+use Rattle.stack_rules.specs.Places.{agenda_first, is_full, is_kept_by, kept_lists}
+use Rattle.stack_rules.specs.Outcome.{Outcome, refused, list_no}
 use Rattle.stack_rules.specs.Sends.{sent, send_outcome, transmitted, transmit_outcome, miniport_rows, ring_is_full}
 use Rattle.stack_rules.specs.Dones.{home_rows, homeward_rows, released}
 use Rattle.stack_rules.specs.Pumps.{pump_outcome, moved_rows}
-use Rattle.first_form.specs.First.{IsFirst, IsFirstList, IsFirstStand}
+use Rattle.first_form.specs.First.{IsFirst, IsFirstList, IsFirstStand, PhaseFits}
+use Rattle.first_form.proofs.Kept.{fits_at}
 use Rattle.first_form.proofs.Fronts.{IsNextKept, next_kept}
 use Rattle.first_form.proofs.Lists.{IsFirstAway, first_away, IsFound, found_fits}
 use Rattle.first_form.proofs.Moves.{fit_of, home_is, transmitted_is}
 use Rattle.first_form.proofs.Outcomes.{miniport_keeps, miniport_turns_back}
-use Rattle.first_form.proofs.Rings.{pump_works, transmit_wires}
+use Rattle.first_form.proofs.Rings.{pump_works, transmit_idle, transmit_wires}
 use Rattle.held_lists.specs.Held.{Common, in_hand, in_state}
 use Rattle.held_lists.proofs.Splits.{all_right}
 use Rattle.own_ledger.specs.declared.AwayList.{AwayList}
@@ -43,7 +48,7 @@ use Rattle.stack_book.specs.Stands.{Stands, IsReady, IsShort, Writes}
 use Rattle.stack_book.specs.Events.{FirstIs}
 use Rattle.stack_book.specs.Turns.{Acts, IsShortReply}
 use Rattle.stack_book.proofs.Gives.{first_now}
-use Rattle.stack_book.proofs.Turns.{fits_bytes}
+use Rattle.stack_book.proofs.Turns.{fits_bytes, writes_none, answers_alone}
 
 -- there are few rows, of few bytes
 pub record AreSmall (rows : List Row) : Type 0 where
@@ -72,6 +77,30 @@ pub send_acts : (old new : BookView) (binding : ℕ) (cancel : Option ℕ) (fram
 send_acts old new binding cancel frames n w running spare fits number =
     acts_by old new (send_outcome old.core.tray.net binding cancel frames) (reply.Sent n) (sent old.core.tray.net binding cancel frames)
     (send_is old.core.tray.net binding cancel frames n running spare number) tt (sent_small old.core.tray.net binding cancel frames fits) w
+
+-- a send that is refused, since the stack doesn't run
+not_running : (p : Phase) (at : Outcome) → (p ≡ phase.Running → ⊥) → cond (phase_is_running p) at (refused (refusal.Paused p)) ≡ refused (refusal.Paused p)
+not_running phase.Halted at not = refl
+not_running phase.Paused at not = refl
+not_running phase.Restarting at not = refl
+not_running phase.Running at not = absurd (not refl)
+not_running phase.Pausing at not = refl
+
+pub paused_acts : (b : BookView) (binding : ℕ) (cancel : Option ℕ) (frames : List (List ℕ)) (p : Phase) → p ≡ b.core.tray.net.phase → (p ≡ phase.Running → ⊥)
+    → Acts b b (send_outcome b.core.tray.net binding cancel frames) (reply.Refused (refusal.Paused p))
+paused_acts b binding cancel frames p e not =
+    let net : Net = b.core.tray.net in
+    let at : Outcome = cond (is_full net (Binding binding)) (refused refusal.NoList) (record { reply = reply.Sent (list_no net.next.list); rows = sent net binding cancel frames }) in
+    let is : send_outcome net binding cancel frames ≡ refused (refusal.Paused p) =
+    ap (λ q. cond (phase_is_running q) at (refused (refusal.Paused q))) (sym e) ∙ not_running p at not in
+    answers_alone b (send_outcome net binding cancel frames) (reply.Refused (refusal.Paused p)) is tt
+
+-- a send that is refused, since the pool of the binding is full
+pub full_acts : (b : BookView) (binding : ℕ) (cancel : Option ℕ) (frames : List (List ℕ)) → b.core.tray.net.phase ≡ phase.Running → is_full b.core.tray.net (Binding binding) ≡ true
+    → Acts b b (send_outcome b.core.tray.net binding cancel frames) (reply.Refused refusal.NoList)
+full_acts b binding cancel frames running full =
+    let is : send_outcome b.core.tray.net binding cancel frames ≡ refused refusal.NoList = rw (running, full) refl in
+    answers_alone b (send_outcome b.core.tray.net binding cancel frames) (reply.Refused refusal.NoList) is tt
 
 -- a transmit
 fits_front : (kept : List ListView) (l : LiveList) (rest : List LiveList) → All IsShort kept → map in_hand kept ≡ map in_state (l ∷ rest) → Fits l.frames 1518
@@ -112,6 +141,16 @@ wired_acts old new n w first stands =
     (rw w.number (transmit_wires old.core.tray.net w.list w.rest first w.kept)) tt
     (subst AreSmall (sym (transmitted_is old.core.tray.net w.list first next.first)) (wired_small w.list _ _ (kept_fits old w.list w.rest stands w.kept)))
     w.writes
+
+-- the ring is empty
+pub none_acts : (old new : BookView) → IsFirst old.core.tray.net → kept_lists old.core.tray.net Miniport ≡ [] → Writes old new [] → Acts old new (transmit_outcome old.core.tray.net) reply.Idle
+none_acts old new first none w =
+    acts_by old new (transmit_outcome old.core.tray.net) reply.Idle [] (transmit_idle old.core.tray.net first none) tt (record { few = omega arith; bytes = omega arith }) w
+
+pub halted_acts : (b : BookView) → IsFirst b.core.tray.net → b.core.tray.net.phase ≡ phase.Halted → Acts b b (transmit_outcome b.core.tray.net) reply.Idle
+halted_acts b first p =
+    let f : PhaseFits b.core.tray.net phase.Halted = fits_at b.core.tray.net phase.Halted first p in
+    none_acts b b first (ap (λ (ts : List Thing). filter (λ (l : LiveList). is_kept_by Miniport l.stand) (lists ts)) f.1.1) (writes_none b)
 
 -- a pump gives a list to the miniport
 given_small : (net : Net) (l : LiveList) → IsFirst net → IsFirstList net.head l → AreSmall (miniport_rows net l)

@@ -31,6 +31,7 @@ use Rattle.stack_core.specs.Views.{CoreView}
 use Rattle.stack_book.specs.Views.{BookView}
 use Rattle.stack_book.specs.Calls.{SentAt}
 use Rattle.stack_book.specs.Stands.{Stands, IsShort, DriversFit, Writes}
+use Rattle.stack_book.proofs.Did.{home_did}
 use Rattle.stack_book.proofs.Pools.{pools_length, pools_set}
 use Rattle.stack_book.proofs.Taken.{Takes, net_of, agrees_of, short_of, pools_of, taken_is, some_same, set_up_of}
 
@@ -80,13 +81,13 @@ drivers_up b after phase.Restarting d up port head = port ∙ up ∙ ap (λ (h :
 drivers_up b after phase.Running d up port head = port ∙ up ∙ ap (λ (h : StackHead). Some h.port) (sym head)
 drivers_up b after phase.Pausing d up port head = port ∙ up ∙ ap (λ (h : StackHead). Some h.port) (sym head)
 
-pub home_stands : {b : BookView} {c : CoreView} {l : ListView} {binding : ℕ} {status : ListStatus} (protocols : List ProtocolState) (pool : PoolView) → Takes b c l (done_at binding status)
-    → binding < length b.core.head.bindings → SentAt b.protocols binding protocols → Frees (slice_index_or c.pools binding no_pool) l pool → Stands (home_book b (home_core c l binding status pool) protocols)
-home_stands {b} {c} {l} {binding} {status} protocols pool g within sent frees =
+pub home_stands : {b : BookView} {c : CoreView} {l : ListView} {binding at : ℕ} {status : ListStatus} (protocols : List ProtocolState) (pool : PoolView) → Takes b c l (done_at binding status)
+    → binding < length b.core.head.bindings → SentAt b.protocols at protocols → Frees (slice_index_or c.pools binding no_pool) l pool → Stands (home_book b (home_core c l binding status pool) protocols)
+home_stands {b} {c} {l} {binding} {at} {status} protocols pool g within sent frees =
     let after : BookView = home_book b (home_core c l binding status pool) protocols in
     let head : b.core.head ≡ c.head = head_of g in
     let inside : binding < length c.head.bindings = subst (λ (h : StackHead). binding < length h.bindings) head within in
-    let count : length protocols ≡ length b.core.head.bindings = ap length sent.others ∙ length-set b.protocols binding _ ∙ g.stands.protocols in
+    let count : length protocols ≡ length b.core.head.bindings = ap length sent.others ∙ length-set b.protocols at _ ∙ g.stands.protocols in
     let phase : b.core.tray.net.phase ≡ c.tray.net.phase = ap (λ (n : Net). n.phase) (net_of g) in
     record {
       agrees = homed c.tray.net l (Binding binding) status c.tray.queue b.miniport.kept c.pools binding pool (agrees_of g) (owner_here g) (within_pools binding g within) frees;
@@ -101,8 +102,8 @@ home_is : (net : Net) (x : LiveList) (binding : ℕ) (status : ListStatus) (n : 
 home_is net x binding status n number owner root = ap (λ o. row.Home x.list x.owner status ∷ released net x.owner o status) root ∙ ap (λ o. row.Home x.list o status ∷ []) owner ∙ ap (λ k. row.Home k (Binding binding) status ∷ []) number
 
 pub home_writes : {b : BookView} {c : CoreView} {l : ListView} {binding : ℕ} {status : ListStatus} (protocols : List ProtocolState) (pool : PoolView) (x : LiveList) (g : Takes b c l (done_at binding status))
-    → agenda_first b.core.tray.net ≡ Some (thing.List x) → Writes b (home_book b (home_core c l binding status pool) protocols) (home_rows b.core.tray.net x status)
-home_writes {b} {c} {l} {binding} {status} protocols pool x g first =
+    → SentAt b.protocols binding protocols → agenda_first b.core.tray.net ≡ Some (thing.List x) → Writes b (home_book b (home_core c l binding status pool) protocols) (home_rows b.core.tray.net x status)
+home_writes {b} {c} {l} {binding} {status} protocols pool x g sent first =
     let same : x ≡ g.first.list = some_same (agenda_first b.core.tray.net) x g.first.list first g.first.first in
     let number : x.list ≡ l.label.number = ap (λ (y : LiveList). y.list) same ∙ ap (λ (y : Common). y.list) (taken_is g) in
     let is = home_is b.core.tray.net x binding status l.label.number number (ap (λ (y : LiveList). y.owner) same ∙ owner_of g) (ap (λ (y : LiveList). y.origin) same ∙ g.first.fits.root) in
@@ -117,5 +118,6 @@ home_writes {b} {c} {l} {binding} {status} protocols pool x g first =
       room = omega (arith, room);
       row_room = sym (ap (λ (y : CoreView). y.row_room) g.core);
       byte_room = sym (ap (λ (y : CoreView). y.byte_room) g.core);
+      drivers = home_did b (home_book b (home_core c l binding status pool) protocols) l.label.number binding status sent refl;
     } in
     subst (Writes b (home_book b (home_core c l binding status pool) protocols)) (sym is) writes

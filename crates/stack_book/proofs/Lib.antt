@@ -1,3 +1,4 @@
+pub mod Did
 pub mod Pools
 pub mod Sends
 pub mod Gives

@@ -36,6 +36,8 @@ use Rattle.stack_book.specs.Views.{BookView}
 use Rattle.stack_book.specs.Calls.{opened, closed}
 use Rattle.stack_book.specs.Events.{begin_rows}
 use Rattle.stack_book.specs.Stands.{Stands, DriversFit, IsClosed, Writes}
+use Rattle.stack_book.specs.Drivers.{DriversDid}
+use Rattle.stack_book.proofs.Did.{AreSilent, shows-append, no_rows, silent_did, opened_did, closed_did}
 
 -- the core after these rows
 abbrev pub wrote : CoreView → List Row → CoreView
@@ -112,9 +114,16 @@ states_phase net ss (m ∷ ms) =
     one net [] m = refl
     one net (s ∷ ss) m = one (after net (state_row s m)) ss m
 
+-- rows that change no list call no driver
+pub silent : (rows : List Row) → IsQuiet rows → AreSilent rows
+silent [] q = no_rows
+silent (row.Phase whose ∷ rows) q = shows-append 0 0 [] [] (row.Phase whose ∷ []) rows (record { gives = refl; logs = refl; homes = λ b. refl }) (silent rows q)
+silent (row.Config config filters ∷ rows) q = shows-append 0 0 [] [] (row.Config config filters ∷ []) rows (record { gives = refl; logs = refl; homes = λ b. refl }) (silent rows q)
+silent (_ ∷ rows) q = absurd q
+
 -- the rows were written
-pub writes : (b b' : BookView) (rows : List Row) → b'.core ≡ wrote b.core rows → Writes b b' rows
-writes b b' rows e = record {
+pub writes : (b b' : BookView) (rows : List Row) → b'.core ≡ wrote b.core rows → DriversDid b b' rows → Writes b b' rows
+writes b b' rows e did = record {
   head = ap (λ (c : CoreView). c.head) e;
   turns = ap (λ (c : CoreView). c.turns) e;
   net = ap (λ (c : CoreView). c.tray.net) e ∙ written_net b.core.tray rows;
@@ -122,7 +131,12 @@ writes b b' rows e = record {
   room = omega (arith, ap (λ (c : CoreView). c.tray.room) e, room-written_all b.core.tray rows);
   row_room = ap (λ (c : CoreView). c.row_room) e;
   byte_room = ap (λ (c : CoreView). c.byte_room) e;
+  drivers = did;
 }
+
+-- the same where the drivers stay as they were
+pub writes_same : (b b' : BookView) (rows : List Row) → b'.core ≡ wrote b.core rows → IsQuiet rows → b'.miniport ≡ b.miniport → b'.protocols ≡ b.protocols → Writes b b' rows
+writes_same b b' rows e quiet m ps = writes b b' rows e (silent_did b b' rows (silent rows quiet) m ps)
 
 -- what is left after rows that change no list
 pub stands_after : (b b' : BookView) (rows : List Row) → Stands b → b'.core ≡ wrote b.core rows → IsQuiet rows → b'.miniport.kept ≡ b.miniport.kept → length b'.protocols ≡ length b.protocols
@@ -250,9 +264,12 @@ halt_core c c1 c2 c3 e1 e2 e3 =
     then_wrote c c1 c3 (closing_rows c.tray.net) halted_end e1 (then_wrote c1 c2 c3 (state_row state.Halted Miniport ∷ []) (row.Phase (of.Stack phase.Halted) ∷ []) e2 e3)
 
 pub halt_writes : (b b' : BookView) (c1 c2 : CoreView) → IsFirst b.core.tray.net → c1 ≡ wrote b.core (closing_rows b.core.tray.net) → c2 ≡ wrote c1 (state_row state.Halted Miniport ∷ [])
-    → b'.core ≡ wrote c2 (row.Phase (of.Stack phase.Halted) ∷ []) → Writes b b' (halt_rows b.core.tray.net)
-halt_writes b b' c1 c2 first e1 e2 e3 =
-    subst (Writes b b') (sym (halt_is b.core.tray.net first)) (writes b b' (closing_rows b.core.tray.net ++ halted_end) (halt_core b.core c1 c2 b'.core e1 e2 e3))
+    → b'.core ≡ wrote c2 (row.Phase (of.Stack phase.Halted) ∷ []) → b'.miniport ≡ record b.miniport { port = None } → b'.protocols ≡ map closed b.protocols → Writes b b' (halt_rows b.core.tray.net)
+halt_writes b b' c1 c2 first e1 e2 e3 m ps =
+    let quiet : IsQuiet (closing_rows b.core.tray.net ++ halted_end) =
+    quiet_states (state.Closing ∷ state.Unbound ∷ []) (binding_ids 0 b.core.tray.net.modules.bindings) halted_end tt in
+    subst (Writes b b') (sym (halt_is b.core.tray.net first))
+    (writes b b' (closing_rows b.core.tray.net ++ halted_end) (halt_core b.core c1 c2 b'.core e1 e2 e3) (closed_did b b' _ None (silent _ quiet) m ps))
 
 pub halt_stands : (b b' : BookView) (c1 c2 : CoreView) → Stands b → c1 ≡ wrote b.core (closing_rows b.core.tray.net) → c2 ≡ wrote c1 (state_row state.Halted Miniport ∷ [])
     → b'.core ≡ wrote c2 (row.Phase (of.Stack phase.Halted) ∷ []) → b'.miniport ≡ record b.miniport { port = None } → b'.protocols ≡ map closed b.protocols → Stands b'
@@ -275,8 +292,9 @@ begin_core c c1 c2 e1 e2 =
     (at_bindings c c1 c2 (state.Pausing ∷ []) (bindings_there c c1 (row.Phase (of.Stack phase.Pausing) ∷ []) e1 refl) e2)
 
 pub begin_writes : (b b' : BookView) (c1 : CoreView) → c1 ≡ wrote b.core (row.Phase (of.Stack phase.Pausing) ∷ []) → b'.core ≡ wrote c1 (state_rows (state.Pausing ∷ []) (binding_ids 0 c1.tray.net.modules.bindings))
-    → Writes b b' (begin_rows b.core.tray.net)
-begin_writes b b' c1 e1 e2 = writes b b' (begin_rows b.core.tray.net) (begin_core b.core c1 b'.core e1 e2)
+    → b'.miniport ≡ b.miniport → b'.protocols ≡ b.protocols → Writes b b' (begin_rows b.core.tray.net)
+begin_writes b b' c1 e1 e2 m ps =
+    writes_same b b' (begin_rows b.core.tray.net) (begin_core b.core c1 b'.core e1 e2) (quiet_all (state.Pausing ∷ []) (binding_ids 0 b.core.tray.net.modules.bindings)) m ps
 
 pub begin_stands : (b b' : BookView) (c1 : CoreView) → Stands b → b.core.tray.net.phase ≡ phase.Running → c1 ≡ wrote b.core (row.Phase (of.Stack phase.Pausing) ∷ [])
     → b'.core ≡ wrote c1 (state_rows (state.Pausing ∷ []) (binding_ids 0 c1.tray.net.modules.bindings)) → b'.miniport ≡ b.miniport → b'.protocols ≡ b.protocols → Stands b'
@@ -289,10 +307,12 @@ begin_stands b b' c1 s was e1 e2 m ps =
 abbrev pausing_rows : Net → List Row
 pausing_rows net = state_rows (state.Paused ∷ []) (binding_ids 0 net.modules.bindings)
 
-pub top_writes : (b b' : BookView) (c1 : CoreView) → IsFirst b.core.tray.net → c1 ≡ wrote b.core (pausing_rows b.core.tray.net) → b'.core ≡ wrote c1 (state_row state.Pausing Miniport ∷ []) → Writes b b' (paused_rows b.core.tray.net 0)
-top_writes b b' c1 first e1 e2 =
+pub top_writes : (b b' : BookView) (c1 : CoreView) → IsFirst b.core.tray.net → c1 ≡ wrote b.core (pausing_rows b.core.tray.net) → b'.core ≡ wrote c1 (state_row state.Pausing Miniport ∷ [])
+    → b'.miniport ≡ b.miniport → b'.protocols ≡ b.protocols → Writes b b' (paused_rows b.core.tray.net 0)
+top_writes b b' c1 first e1 e2 m ps =
     subst (Writes b b') (sym (top_rows b.core.tray.net first.order))
-    (writes b b' (pausing_rows b.core.tray.net ++ state_row state.Pausing Miniport ∷ []) (then_wrote b.core c1 b'.core (pausing_rows b.core.tray.net) (state_row state.Pausing Miniport ∷ []) e1 e2))
+    (writes_same b b' (pausing_rows b.core.tray.net ++ state_row state.Pausing Miniport ∷ []) (then_wrote b.core c1 b'.core (pausing_rows b.core.tray.net) (state_row state.Pausing Miniport ∷ []) e1 e2)
+    (quiet_states (state.Paused ∷ []) (binding_ids 0 b.core.tray.net.modules.bindings) (state_row state.Pausing Miniport ∷ []) tt) m ps)
 
 pub top_stands : (b b' : BookView) (c1 : CoreView) → Stands b → b.core.tray.net.phase ≡ phase.Pausing → c1 ≡ wrote b.core (pausing_rows b.core.tray.net) → b'.core ≡ wrote c1 (state_row state.Pausing Miniport ∷ [])
     → b'.miniport ≡ b.miniport → b'.protocols ≡ b.protocols → Stands b'
@@ -309,8 +329,9 @@ bottom_end = state_row state.Paused Miniport ∷ row.Phase (of.Stack phase.Pause
 bottom_core : (c c1 c2 : CoreView) → c1 ≡ wrote c (state_row state.Paused Miniport ∷ []) → c2 ≡ wrote c1 (row.Phase (of.Stack phase.Paused) ∷ []) → c2 ≡ wrote c bottom_end
 bottom_core c c1 c2 e1 e2 = then_wrote c c1 c2 (state_row state.Paused Miniport ∷ []) (row.Phase (of.Stack phase.Paused) ∷ []) e1 e2
 
-pub bottom_writes : (b b' : BookView) (c1 : CoreView) → IsFirst b.core.tray.net → c1 ≡ wrote b.core (state_row state.Paused Miniport ∷ []) → b'.core ≡ wrote c1 (row.Phase (of.Stack phase.Paused) ∷ []) → Writes b b' (paused_rows b.core.tray.net 1)
-bottom_writes b b' c1 first e1 e2 = subst (Writes b b') (sym (bottom_rows b.core.tray.net first.order)) (writes b b' bottom_end (bottom_core b.core c1 b'.core e1 e2))
+pub bottom_writes : (b b' : BookView) (c1 : CoreView) → IsFirst b.core.tray.net → c1 ≡ wrote b.core (state_row state.Paused Miniport ∷ []) → b'.core ≡ wrote c1 (row.Phase (of.Stack phase.Paused) ∷ [])
+    → b'.miniport ≡ b.miniport → b'.protocols ≡ b.protocols → Writes b b' (paused_rows b.core.tray.net 1)
+bottom_writes b b' c1 first e1 e2 m ps = subst (Writes b b') (sym (bottom_rows b.core.tray.net first.order)) (writes_same b b' bottom_end (bottom_core b.core c1 b'.core e1 e2) tt m ps)
 
 pub bottom_stands : (b b' : BookView) (c1 : CoreView) → Stands b → b.core.tray.net.phase ≡ phase.Pausing → c1 ≡ wrote b.core (state_row state.Paused Miniport ∷ []) → b'.core ≡ wrote c1 (row.Phase (of.Stack phase.Paused) ∷ [])
     → b'.miniport ≡ b.miniport → b'.protocols ≡ b.protocols → Stands b'
@@ -324,8 +345,8 @@ low_core : (c c1 c2 : CoreView) → c1 ≡ wrote c (row.Phase (of.Stack phase.Re
 low_core c c1 c2 e1 e2 = then_wrote c c1 c2 (row.Phase (of.Stack phase.Restarting) ∷ []) (state_row state.Restarting Miniport ∷ state_row state.Running Miniport ∷ []) e1 e2
 
 pub low_writes : (b b' : BookView) (c1 : CoreView) → IsFirst b.core.tray.net → b.core.tray.net.phase ≡ phase.Paused → c1 ≡ wrote b.core (row.Phase (of.Stack phase.Restarting) ∷ [])
-    → b'.core ≡ wrote c1 (state_row state.Restarting Miniport ∷ state_row state.Running Miniport ∷ []) → Writes b b' (restart_rows b.core.tray.net 0)
-low_writes b b' c1 first was e1 e2 = subst (Writes b b') (sym (low_rows b.core.tray.net first was)) (writes b b' low_end (low_core b.core c1 b'.core e1 e2))
+    → b'.core ≡ wrote c1 (state_row state.Restarting Miniport ∷ state_row state.Running Miniport ∷ []) → b'.miniport ≡ b.miniport → b'.protocols ≡ b.protocols → Writes b b' (restart_rows b.core.tray.net 0)
+low_writes b b' c1 first was e1 e2 m ps = subst (Writes b b') (sym (low_rows b.core.tray.net first was)) (writes_same b b' low_end (low_core b.core c1 b'.core e1 e2) tt m ps)
 
 pub low_stands : (b b' : BookView) (c1 : CoreView) → Stands b → b.core.tray.net.phase ≡ phase.Paused → c1 ≡ wrote b.core (row.Phase (of.Stack phase.Restarting) ∷ [])
     → b'.core ≡ wrote c1 (state_row state.Restarting Miniport ∷ state_row state.Running Miniport ∷ []) → b'.miniport ≡ b.miniport → b'.protocols ≡ b.protocols → Stands b'
@@ -338,9 +359,12 @@ high_front net = state_rows (state.Restarting ∷ state.Running ∷ []) (binding
 abbrev high_end : List Row
 high_end = row.Phase (of.Stack phase.Running) ∷ []
 
-pub high_writes : (b b' : BookView) (c1 : CoreView) → IsFirst b.core.tray.net → b.core.tray.net.phase ≡ phase.Restarting → c1 ≡ wrote b.core (high_front b.core.tray.net) → b'.core ≡ wrote c1 high_end → Writes b b' (restart_rows b.core.tray.net 1)
-high_writes b b' c1 first was e1 e2 =
-    subst (Writes b b') (sym (high_rows b.core.tray.net first was)) (writes b b' (high_front b.core.tray.net ++ high_end) (then_wrote b.core c1 b'.core (high_front b.core.tray.net) high_end e1 e2))
+pub high_writes : (b b' : BookView) (c1 : CoreView) → IsFirst b.core.tray.net → b.core.tray.net.phase ≡ phase.Restarting → c1 ≡ wrote b.core (high_front b.core.tray.net) → b'.core ≡ wrote c1 high_end
+    → b'.miniport ≡ b.miniport → b'.protocols ≡ b.protocols → Writes b b' (restart_rows b.core.tray.net 1)
+high_writes b b' c1 first was e1 e2 m ps =
+    subst (Writes b b') (sym (high_rows b.core.tray.net first was))
+    (writes_same b b' (high_front b.core.tray.net ++ high_end) (then_wrote b.core c1 b'.core (high_front b.core.tray.net) high_end e1 e2)
+    (quiet_states (state.Restarting ∷ state.Running ∷ []) (binding_ids 0 b.core.tray.net.modules.bindings) high_end tt) m ps)
 
 pub high_stands : (b b' : BookView) (c1 : CoreView) → Stands b → b.core.tray.net.phase ≡ phase.Restarting → c1 ≡ wrote b.core (high_front b.core.tray.net) → b'.core ≡ wrote c1 high_end
     → b'.miniport ≡ b.miniport → b'.protocols ≡ b.protocols → Stands b'
@@ -367,10 +391,14 @@ initialize_core c c1 c2 c3 c4 e1 e2 e3 e4 =
 
 -- from the core before the drivers were set up, which is the same
 pub initialize_writes : (b b' : BookView) (c c1 c2 c3 : CoreView) → c ≡ b.core → c1 ≡ wrote c (state_row state.Paused Miniport ∷ []) → c2 ≡ wrote c1 (opening_rows c1.tray.net)
-    → c3 ≡ wrote c2 (row.Phase (of.Stack phase.Paused) ∷ []) → b'.core ≡ wrote c3 (row.Config (config_no 1) [] ∷ []) → Writes b b' (initialize_rows b.core.tray.net)
-initialize_writes b b' c c1 c2 c3 same e1 e2 e3 e4 =
+    → c3 ≡ wrote c2 (row.Phase (of.Stack phase.Paused) ∷ []) → b'.core ≡ wrote c3 (row.Config (config_no 1) [] ∷ [])
+    → b'.miniport ≡ record b.miniport { port = Some b.core.head.port } → b'.protocols ≡ map opened b.protocols → Writes b b' (initialize_rows b.core.tray.net)
+initialize_writes b b' c c1 c2 c3 same e1 e2 e3 e4 m ps =
+    let quiet : IsQuiet (initialize_rows b.core.tray.net) =
+    quiet_states (state.Opening ∷ state.Paused ∷ []) (binding_ids 0 b.core.tray.net.modules.bindings) opened_end tt in
     writes b b' (initialize_rows b.core.tray.net)
     (initialize_core b.core c1 c2 c3 b'.core (e1 ∙ ap (λ x. wrote x (state_row state.Paused Miniport ∷ [])) same) e2 e3 e4)
+    (opened_did b b' _ (Some b.core.head.port) (silent _ quiet) m ps)
 
 pub initialize_stands : (b b' : BookView) (c c1 c2 c3 : CoreView) → Stands b → c ≡ b.core → c1 ≡ wrote c (state_row state.Paused Miniport ∷ []) → c2 ≡ wrote c1 (opening_rows c1.tray.net)
     → c3 ≡ wrote c2 (row.Phase (of.Stack phase.Paused) ∷ []) → b'.core ≡ wrote c3 (row.Config (config_no 1) [] ∷ [])

@@ -1,6 +1,6 @@
 -- A list is taken from the queue, and given to the miniport.
 use Rattle.std.proofs.Common.{ap₂, eq-eqb, if◌then◌else◌, ◌≡◌, ℕ, ◌+◌, ◌<◌, ◌≤◌, ◌==◌, Bool, true, false, List, [], ◌∷◌, ◌++◌, Option, Some, length, refl, sym, ap, ◌∙◌, arith, subst, All, IsSome}
-use Rattle.std.proofs.lemmas.List.{length-append, append_assoc}
+use Rattle.std.proofs.lemmas.List.{length-append, append_assoc, append-nil}
 use Rattle.std.proofs.lemmas.Bool.Decides.{nat_tests}
 use Rattle.std.proofs.lemmas.List.Elements.{All-append, All-cons, All-nil, All-head, All-tail}
 use Rattle.ndis_base.specs.declared.ListNo.{ListNo}
@@ -31,6 +31,7 @@ use Rattle.held_lists.specs.Held.{Common, in_hand, in_state, Agrees}
 use Rattle.held_lists.proofs.Splits.{all_left, all_right}
 use Rattle.held_lists.proofs.Rows.{given_kept, turned}
 use Rattle.held_lists.proofs.Tells.{first_away, pumps_next, kept_length}
+use Rattle.driver_traits.specs.Counts.{one_send}
 use Rattle.driver_traits.specs.Tray.{TrayView, written, queued, turned_back}
 use Rattle.driver_traits.specs.Miniport.{MiniportState, MaySend, IsSent, Sends}
 use Rattle.driver_traits.specs.Miniport.Sends.{keeps, lacks}
@@ -38,6 +39,8 @@ use Rattle.stack_core.specs.Views.{CoreView}
 use Rattle.stack_book.specs.Views.{BookView}
 use Rattle.stack_book.specs.Stands.{Stands, IsReady, IsShort, ArePoolsOf, DriversFit, Writes}
 use Rattle.stack_book.specs.Events.{FirstIs}
+use Rattle.stack_book.specs.Drivers.{DriversDid}
+use Rattle.stack_book.proofs.Did.{Shows, shows-append, homeward_silent, calls_did}
 use Rattle.stack_book.proofs.Gives.{first_now, set_up, other_kept}
 use Rattle.stack_core.specs.Core.{Follows}
 
@@ -204,8 +207,8 @@ appended_three xs p q r = append_assoc (xs ++ p ∷ []) (q ∷ []) (r ∷ []) �
 
 -- what is written into the tray is written into the book
 pub writes_of : {b : BookView} {c : CoreView} {l : ListView} {at : Stand} (t : TrayView) (m : MiniportState) (room bytes : ℕ) (rows : List Row) → Takes b c l at
-    → t.net ≡ after_rows c.tray.net rows → t.rows ≡ c.tray.rows ++ rows → c.tray.room ≤ t.room + length rows → Writes b (changed_book b c t m room bytes) rows
-writes_of {b} {c} {l} {at} t m room bytes rows g net more left = record {
+    → t.net ≡ after_rows c.tray.net rows → t.rows ≡ c.tray.rows ++ rows → c.tray.room ≤ t.room + length rows → DriversDid b (changed_book b c t m room bytes) rows → Writes b (changed_book b c t m room bytes) rows
+writes_of {b} {c} {l} {at} t m room bytes rows g net more left did = record {
   head = sym (ap (λ (x : CoreView). x.head) g.core);
   turns = sym (ap (λ (x : CoreView). x.turns) g.core);
   net = net ∙ ap (λ n. after_rows n rows) (sym (net_of g));
@@ -213,6 +216,7 @@ writes_of {b} {c} {l} {at} t m room bytes rows g net more left = record {
   room = subst (λ n. n ≤ t.room + length rows) (sym (ap (λ (x : CoreView). x.tray.room) g.core)) left;
   row_room = sym (ap (λ (x : CoreView). x.row_room) g.core);
   byte_room = sym (ap (λ (x : CoreView). x.byte_room) g.core);
+  drivers = did;
 }
 
 below_not : (a b : ℕ) → a < b → (a == b) ≡ false
@@ -235,17 +239,38 @@ lacking_rows ms l =
 abbrev pub rows_where : Net → LiveList → Bool → List Row
 rows_where net l full = row.Give l.list Miniport handler.Send ∷ (if full then target.turned_back net.modules l Miniport Resources else row.Keep l.list Miniport ∷ [])
 
-pub written_by : {b : BookView} {c : CoreView} {l : ListView} {at : Stand} (t : TrayView) (m : MiniportState) (room bytes : ℕ) (x : LiveList) → Takes b c l at → in_state x ≡ in_hand l
+-- the miniport counted the list that it was given
+abbrev IsCounted : MiniportState → MiniportState → Type 0
+IsCounted old new = new ≡ record old { served = one_send old.served; kept = new.kept }
+
+-- the miniport did what rows show in which it is given one list
+given_did : (b : BookView) (c : CoreView) (t : TrayView) (m : MiniportState) (room bytes : ℕ) (rows : List Row) → IsCounted b.miniport m → Shows 1 [] rows → DriversDid b (changed_book b c t m room bytes) rows
+given_did b c t m room bytes rows counted shows =
+    calls_did b (changed_book b c t m room bytes) rows b.miniport.port m.kept 1 [] shows
+    (counted ∙ ap (λ w. record b.miniport { served = one_send b.miniport.served; kept = m.kept; log = w }) (sym (append-nil b.miniport.log))) refl
+
+-- it is given one list where it keeps it
+kept_shows : (l : Common) → Shows 1 [] (kept_rows l)
+kept_shows l = record { gives = refl; logs = refl; homes = λ b. refl }
+
+-- and where it turns it back
+lacking_shows : (ms : Modules) (l : Common) → Shows 1 [] (lacking_rows ms l)
+lacking_shows ms l =
+    shows-append 1 0 [] [] (row.Give l.list Miniport handler.Send ∷ row.TurnBack l.list Miniport Resources ∷ []) _
+    (record { gives = refl; logs = refl; homes = λ b. refl }) (homeward_silent ms l.list l.owner l.direction (position ms.order Miniport) Resources)
+
+pub written_by : {b : BookView} {c : CoreView} {l : ListView} {at : Stand} (t : TrayView) (m : MiniportState) (room bytes : ℕ) (x : LiveList) → Takes b c l at → in_state x ≡ in_hand l → IsCounted b.miniport m
     → Sends b.core.head.port.ring b.miniport.kept l (given_tray c.tray l) m.kept t → Writes b (changed_book b c t m room bytes) (miniport_rows b.core.tray.net x)
-written_by {b} {c} {l} {at} t m room bytes x g same (keeps some kept tray) =
+written_by {b} {c} {l} {at} t m room bytes x g same counted (keeps some kept tray) =
     let full : ring_is_full b.core.tray.net ≡ false = full_is g ∙ below_not (length b.miniport.kept) b.core.head.port.ring some in
     let is : miniport_rows b.core.tray.net x ≡ kept_rows (in_hand l) = ap (rows_where b.core.tray.net x) full ∙ ap kept_rows same in
     rw is
     (writes_of t m room bytes (kept_rows (in_hand l)) g
     (ap (λ (y : TrayView). y.net) tray)
     (ap (λ (y : TrayView). y.rows) tray ∙ append_assoc c.tray.rows _ _)
-    (rw tray (omega arith)))
-written_by {b} {c} {l} {at} t m room bytes x g same (lacks none kept tray) =
+    (rw tray (omega arith))
+    (given_did b c t m room bytes (kept_rows (in_hand l)) counted (kept_shows (in_hand l))))
+written_by {b} {c} {l} {at} t m room bytes x g same counted (lacks none kept tray) =
     let equal : length b.miniport.kept ≡ b.core.head.port.ring = omega (arith, none, g.stands.ring) in
     let full : ring_is_full b.core.tray.net ≡ true = full_is g ∙ eq-eqb (length b.miniport.kept) b.core.head.port.ring equal in
     let is : miniport_rows b.core.tray.net x ≡ lacking_rows c.tray.net.modules (in_hand l) =
@@ -254,9 +279,10 @@ written_by {b} {c} {l} {at} t m room bytes x g same (lacks none kept tray) =
     (writes_of t m room bytes (lacking_rows c.tray.net.modules (in_hand l)) g
     (ap (λ (y : TrayView). y.net) tray)
     (ap (λ (y : TrayView). y.rows) tray ∙ appended_three c.tray.rows _ _ _)
-    (rw tray (omega arith)))
+    (rw tray (omega arith))
+    (given_did b c t m room bytes (lacking_rows c.tray.net.modules (in_hand l)) counted (lacking_shows c.tray.net.modules (in_hand l))))
 
 pub given_writes : {b : BookView} {c : CoreView} {l : ListView} {at : Stand} (t : TrayView) (m : MiniportState) (room bytes : ℕ) (x : LiveList) → Takes b c l at
     → IsSent b.miniport l (given_tray c.tray l) m t → agenda_first b.core.tray.net ≡ Some (thing.List x) → Writes b (changed_book b c t m room bytes) (miniport_rows b.core.tray.net x)
 given_writes {b} {c} {l} {at} t m room bytes x g sent first =
-    written_by t m room bytes x g (ap in_state (some_same (agenda_first b.core.tray.net) x g.first.list first g.first.first) ∙ taken_is g) (sent.by b.core.head.port (set_up_of g))
+    written_by t m room bytes x g (ap in_state (some_same (agenda_first b.core.tray.net) x g.first.list first g.first.first) ∙ taken_is g) sent.same (sent.by b.core.head.port (set_up_of g))

@@ -1,5 +1,6 @@
 -- What an event's function wrote and answers becomes a turn that may come next.
 use Rattle.std.proofs.Common.{◌≡◌, ℕ, ◌+◌, ◌*◌, ◌≤◌, true, List, [], ◌∷◌, ◌++◌, length, sum_by, refl, sym, ap, ap₂, ◌∙◌, arith, subst, All}
+use Rattle.std.proofs.lemmas.List.{append-nil}
 use Rattle.std.proofs.lemmas.List.Elements.{All-head, All-tail}
 use Rattle.std.proofs.lemmas.List.Sums.{sum_by-cons}
 use Rattle.journal_types.specs.declared.Asked.{Asked}
@@ -10,15 +11,35 @@ use Rattle.journal_types.specs.declared.StackHead.{StackHead}
 use Rattle.journal_types.specs.Sizes.{turn_bytes, row_bytes, reply_bytes, event_bytes, frames_bytes}
 use Rattle.stack_rules.specs.declared.Choice.{Choice}
 use Rattle.stack_rules.specs.Net.{Net, seen, after_rows}
-use Rattle.stack_rules.specs.Outcome.{Outcome}
+use Rattle.stack_rules.specs.Outcome.{Outcome, answered}
 use Rattle.stack_rules.specs.Sound.{Next, outcome}
 use Rattle.stack_rules.specs.Conditions.{may_ask}
 use Rattle.buffer_pools.specs.Views.{Fits}
 use Rattle.driver_traits.specs.Tray.{TrayView}
 use Rattle.stack_core.specs.Core.{Follows, Finishes, turn_of}
 use Rattle.stack_book.specs.Views.{BookView}
-use Rattle.stack_book.specs.Stands.{IsReady}
+use Rattle.stack_book.specs.Drivers.{DriversDid, KeepsDrivers}
+use Rattle.stack_book.specs.Stands.{IsReady, Writes}
 use Rattle.stack_book.specs.Turns.{Acts, AddsTurn, IsShortReply, asked_turn}
+use Rattle.stack_book.proofs.Did.{none_did, did_to}
+
+-- where nothing was written the drivers did nothing
+pub writes_none : (b : BookView) → Writes b b []
+writes_none b = record {
+  head = refl;
+  turns = refl;
+  net = refl;
+  rows = sym (append-nil b.core.tray.rows);
+  room = omega arith;
+  row_room = refl;
+  byte_room = refl;
+  drivers = none_did b;
+}
+
+-- an event that writes nothing is answered alone
+pub answers_alone : (b : BookView) (o : Outcome) (answer : Reply) → o ≡ answered answer → IsShortReply answer → Acts b b o answer
+answers_alone b o answer is plain =
+    subst (λ x. Acts b b x answer) (sym is) (record { answer_is = refl; plain = plain; writes = writes_none b; few = omega arith; bytes = omega arith })
 
 -- an event was worked by the rules: what its function needs to end the turn
 pub record Answered (old now : BookView) (asked : Asked) (answer : Reply) (o : Outcome) : Type 0 where
@@ -97,13 +118,14 @@ finish_bytes {old} {now} {asked} {answer} {o} a =
     omega (arith, none, same, room, enough, low, asked_for)
 
 -- the turn was added
-pub adds : {old now new : BookView} {asked : Asked} {answer : Reply} {o : Outcome} → Answered old now asked answer o → Finishes now.core new.core asked answer → AddsTurn old new asked answer
-adds {old} {now} {new} {asked} {answer} {o} a f = record {
+pub adds : {old now new : BookView} {asked : Asked} {answer : Reply} {o : Outcome} → Answered old now asked answer o → Finishes now.core new.core asked answer → KeepsDrivers now new → AddsTurn old new asked answer
+adds {old} {now} {new} {asked} {answer} {o} a f keeps = record {
   rows = now.core.tray.rows;
   next = next_old a;
   turns = f.turns ∙ ap (λ turns. turns ++ turn_of now.core asked answer ∷ []) a.acts.writes.turns;
   head = f.head ∙ a.acts.writes.head;
   idle = ap (λ (t : TrayView). t.rows) f.tray;
+  drivers = did_to keeps (subst (λ rows. DriversDid old now rows) (sym (rows_are a)) a.acts.writes.drivers);
 }
 
 -- the bytes of frames that may be sent

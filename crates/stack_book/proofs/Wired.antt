@@ -1,5 +1,5 @@
 -- The miniport transmits the oldest list of its ring.
-use Rattle.std.proofs.Common.{◌≡◌, ℕ, List, [], ◌∷◌, ◌++◌, Option, Some, length, refl, sym, ap, ◌∙◌, arith, subst, All, IfSome, IfNone}
+use Rattle.std.proofs.Common.{◌≡◌, ℕ, ◌+◌, List, [], ◌∷◌, ◌++◌, Option, Some, length, refl, sym, ap, ◌∙◌, arith, subst, All, IfSome, IfNone}
 use Rattle.std.proofs.lemmas.List.{append-nil}
 use Rattle.std.proofs.lemmas.List.Elements.{All-append, All-cons, All-nil, All-head, All-tail, All-filter}
 use Rattle.ndis_base.specs.declared.ListNo.{ListNo}
@@ -29,6 +29,8 @@ use Rattle.driver_traits.specs.Miniport.Transmits.{idles, wires}
 use Rattle.stack_core.specs.Core.{Follows}
 use Rattle.stack_book.specs.Views.{BookView}
 use Rattle.stack_book.specs.Stands.{Stands, IsReady, IsShort, Writes}
+use Rattle.stack_book.specs.Drivers.{DriversDid}
+use Rattle.stack_book.proofs.Did.{Shows, shows-append, no_rows, homeward_silent, calls_did, silent_did}
 use Rattle.stack_book.proofs.Gives.{first_now}
 use Rattle.stack_book.proofs.Taken.{changed_book, changed_base, some_port, appended_two}
 
@@ -112,11 +114,34 @@ wired_none {b} w (wires l rest kept) = tt
 
 pub wired_still : {b : BookView} {n : Option ListNo} {m : MiniportState} {t : TrayView} (room bytes : ℕ) → Wiring b → Transmits b.miniport (called b.core.tray) n m t → IfNone n (Writes b (changed_book b b.core t m room bytes) [])
 wired_still {b} room bytes w (idles none) =
-    record { head = refl; turns = refl; net = refl; rows = sym (append-nil b.core.tray.rows); room = omega arith; row_room = refl; byte_room = refl }
+    record {
+      head = refl;
+      turns = refl;
+      net = refl;
+      rows = sym (append-nil b.core.tray.rows);
+      room = omega arith;
+      row_room = refl;
+      byte_room = refl;
+      drivers = silent_did b (changed_book b b.core (called b.core.tray) b.miniport room bytes) [] no_rows refl refl;
+    }
 wired_still {b} room bytes w (wires l rest kept) = tt
 
 abbrev wire_rows : Net → Common → List Row
 wire_rows net l = row.Wire l.list l.frames ∷ homeward_by net.modules l.list l.owner l.direction (position net.modules.order Miniport) Success ∷ []
+
+-- the rows of a transmit show the frames of the list
+wire_shows : (net : Net) (l : Common) → Shows 0 (l.frames ∷ []) (wire_rows net l)
+wire_shows net l =
+    shows-append 0 0 (l.frames ∷ []) [] (row.Wire l.list l.frames ∷ []) _
+    (record { gives = refl; logs = refl; homes = λ b. refl }) (homeward_silent net.modules l.list l.owner l.direction (position net.modules.order Miniport) Success)
+
+-- the miniport logged what it transmitted
+wired_did : (b b' : BookView) (l : ListView) (rest : List ListView) (rows : List Row) → Shows 0 (l.frames ∷ []) rows → b'.miniport ≡ record b.miniport { kept = rest; log = b.miniport.log ++ l.frames ∷ [] }
+    → b'.protocols ≡ b.protocols → DriversDid b b' rows
+wired_did b b' l rest rows shows m ps =
+    let count : b.miniport.served.send ≡ b.miniport.served.send + 0 = omega arith in
+    calls_did b b' rows b.miniport.port rest 0 (l.frames ∷ []) shows
+    (m ∙ ap (λ n. record b.miniport { kept = rest; served = record b.miniport.served { send = n }; log = b.miniport.log ++ l.frames ∷ [] }) count) ps
 
 pub wired_writes : {b : BookView} {n : Option ListNo} {m : MiniportState} {t : TrayView} (room bytes : ℕ) → Wiring b → Transmits b.miniport (called b.core.tray) n m t
     → IfSome n (λ k. (x : LiveList) × (rest : List LiveList) × (kept_lists b.core.tray.net Miniport ≡ x ∷ rest) × (k ≡ x.list) × Writes b (changed_book b b.core t m room bytes) (transmitted b.core.tray.net x))
@@ -131,5 +156,14 @@ wired_writes {b} room bytes w (wires l rest kept) =
     ap (λ rows. row.Wire o.x.list o.x.frames ∷ (rows ++ homeward_by net.modules o.x.list o.x.owner o.x.direction (position net.modules.order Miniport) Success ∷ [])) (no_loop net o.x w.is_first.head.ring)
     ∙ ap (wire_rows net) o.same in
     let writes : Writes b (changed_book b b.core t m room bytes) (wire_rows net (in_hand l)) =
-    record { head = refl; turns = refl; net = refl; rows = appended_two b.core.tray.rows _ _; room = omega arith; row_room = refl; byte_room = refl } in
+    record {
+      head = refl;
+      turns = refl;
+      net = refl;
+      rows = appended_two b.core.tray.rows _ _;
+      room = omega arith;
+      row_room = refl;
+      byte_room = refl;
+      drivers = wired_did b (changed_book b b.core t m room bytes) l rest (wire_rows net (in_hand l)) (wire_shows net (in_hand l)) refl refl;
+    } in
     (o.x, o.rest, o.kept_is, ap (λ (c : Common). c.list) (sym o.same), subst (Writes b (changed_book b b.core t m room bytes)) (sym is) writes)

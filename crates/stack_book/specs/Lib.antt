@@ -1,4 +1,5 @@
 pub mod Views
+pub mod Drivers
 pub mod Stands
 pub mod Calls
 pub mod Events

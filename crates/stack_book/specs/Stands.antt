@@ -9,6 +9,7 @@ use Rattle.stack_rules.specs.Net.{after_rows}
 use Rattle.held_lists.specs.Held.{Agrees}
 use Rattle.driver_traits.specs.Protocol.{ProtocolState}
 use Rattle.stack_book.specs.Views.{BookView}
+use Rattle.stack_book.specs.Drivers.{DriversDid}
 
 -- a pool has the lists that the head gives its binding, each with room for frames of 1518 bytes
 abbrev pub IsPoolOf : PoolView → (ProtocolKind × ℕ) → Type 0
@@ -63,7 +64,7 @@ pub record IsReady (b : BookView) : Type 0 where
   pub sends : b.miniport.served.send < 2 ^ 62
   pub completes : All IsFarProtocol b.protocols
 
--- these rows were written, and nothing else of the journal changed
+-- these rows were written, nothing else of the journal changed, and the drivers did what the rows say
 pub record Writes (old new : BookView) (more : List Row) : Type 0 where
   pub head : new.core.head ≡ old.core.head
   pub turns : new.core.turns ≡ old.core.turns
@@ -72,6 +73,7 @@ pub record Writes (old new : BookView) (more : List Row) : Type 0 where
   pub room : old.core.tray.room ≤ new.core.tray.room + length more
   pub row_room : new.core.row_room ≡ old.core.row_room
   pub byte_room : new.core.byte_room ≡ old.core.byte_room
+  pub drivers : DriversDid old new more
 
 -- what is made of the drivers that were handed in stays of one count
 pub record Same (old new : BookView) : Type 0 where

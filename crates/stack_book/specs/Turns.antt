@@ -10,6 +10,7 @@ use Rattle.stack_rules.specs.Net.{seen}
 use Rattle.stack_rules.specs.Outcome.{Outcome}
 use Rattle.stack_rules.specs.Sound.{Next}
 use Rattle.stack_book.specs.Views.{BookView}
+use Rattle.stack_book.specs.Drivers.{DriversDid}
 use Rattle.stack_book.specs.Stands.{Writes}
 
 -- a reply that holds no frames
@@ -28,10 +29,11 @@ pub record Acts (old new : BookView) (outcome : Outcome) (answer : Reply) : Type
 abbrev pub asked_turn : Asked → Reply → List Row → Turn
 asked_turn asked answer rows = record { who = asked.who; event = asked.event; reply = answer; rows = rows }
 
--- one turn was added, which may come next
+-- one turn was added, which may come next, and the drivers did what its rows say
 pub record AddsTurn (old new : BookView) (asked : Asked) (answer : Reply) : Type 0 where
   pub rows : List Row
   pub next : Next (seen old.core.head old.core.turns) (asked_turn asked answer rows)
   pub turns : new.core.turns ≡ old.core.turns ++ asked_turn asked answer rows ∷ []
   pub head : new.core.head ≡ old.core.head
   pub idle : new.core.tray.rows ≡ []
+  pub drivers : DriversDid old new rows

@@ -20,6 +20,7 @@ ghost use Rattle.first_form.specs.First.{IsFirstHead, IsFirstEvent};
 ghost use Rattle.stack_core.specs.Core.{Follows, turn_of, Finishes};
 ghost use Rattle.stack_book.specs.Stands.{Stands, IsReady, Writes, Same};
 ghost use Rattle.stack_book.specs.Events.{FirstIs, IsSetUp, begin_rows};
+ghost use Rattle.stack_book.specs.Drivers.{KeepsDrivers};
 
 use crate::calls::{are_far, close_all, open_from, pause_all, restart_all, sent_at};
 use crate::parts::StackParts;
@@ -355,6 +356,7 @@ impl Book {
         requires bytes { turn_bytes (turn_of (⟦<Book as Shown>⟧.shown self.old).core asked reply) ≤ (⟦<Book as Shown>⟧.shown self.old).core.byte_room }
         ensures stands { Stands (⟦<Book as Shown>⟧.shown self.new) }
         ensures finishes { Finishes (⟦<Book as Shown>⟧.shown self.old).core (⟦<Book as Shown>⟧.shown self.new).core asked reply }
+        ensures drivers { KeepsDrivers (⟦<Book as Shown>⟧.shown self.old) (⟦<Book as Shown>⟧.shown self.new) }
     {
         self.core.finish(asked, reply);
     }

@@ -124,8 +124,31 @@ open_runs old one two new r s u at b1 b2 b3 t accepted t2 t3 =
     by_answer (inl is) done = done is
     by_answer (inr is) done = absurd (accepted (sym t.reply ∙ is))
 
+-- the answers of an opening
+pub record OpenReplies (r s u : Reply) : Type 0 where
+  pub ok : r ≡ reply.Ok
+  pub next : s ≡ reply.Next
+  pub running : u ≡ reply.Running
+
+pub open_replies : (old one two new : BookView) (r s u : Reply) → IsAt old phase.Halted → IsBetween one → IsBetween two → Turned old one event.Initialize r → (r ≢ reply.Refused refusal.InitRefused) → Turned one two event.RestartNext s → Turned two new event.RestartNext u → OpenReplies r s u
+open_replies old one two new r s u at b1 b2 t accepted t2 t3 =
+    let g = initialize_either old.core.tray.net t.turn t.first t.next t.event at.phase in
+    let ok : t.turn.reply ≡ reply.Ok = by_answer g.answer in
+    let first : Runs old one phase.Paused = at_phase old one event.Initialize r phase.Paused b1 t (g.done ok) in
+    let l2 : LeadsTo one.core.tray.net t2.turn reply.Next phase.Restarting = restart_gives_next one.core.tray.net t2.turn t2.first t2.next t2.event first.now.phase in
+    let second : Runs one two phase.Restarting = leads one two event.RestartNext s reply.Next phase.Restarting b2 t2 l2 in
+    let l3 : LeadsTo two.core.tray.net t3.turn reply.Running phase.Running = restart_gives_running two.core.tray.net t3.turn t3.first t3.next t3.event second.now.phase in
+    record { ok = sym t.reply ∙ ok; next = sym t2.reply ∙ l2.reply; running = sym t3.reply ∙ l3.reply }
+  where
+    by_answer : (t.turn.reply ≡ reply.Ok) ⊎ (t.turn.reply ≡ reply.Refused refusal.InitRefused) → t.turn.reply ≡ reply.Ok
+    by_answer (inl is) = is
+    by_answer (inr is) = absurd (accepted (sym t.reply ∙ is))
+
 pub begin_runs : (old new : BookView) (r : Reply) → IsAt old phase.Running → IsBetween new → Turned old new event.BeginPause r → Runs old new phase.Pausing
 begin_runs old new r at b t = leads old new event.BeginPause r reply.Ok phase.Pausing b t (begin_gives old.core.tray.net t.turn t.first t.next t.event at.phase)
+
+pub begin_told : (old new : BookView) (r : Reply) → IsAt old phase.Running → Turned old new event.BeginPause r → r ≡ reply.Ok
+begin_told old new r at t = sym t.reply ∙ (begin_gives old.core.tray.net t.turn t.first t.next t.event at.phase).reply
 
 pub halt_runs : (old new : BookView) (r : Reply) → IsAt old phase.Paused → IsBetween new → Turned old new event.Halt r → Runs old new phase.Halted
 halt_runs old new r at b t = leads old new event.Halt r reply.Halted phase.Halted b t (halt_gives old.core.tray.net t.turn t.first t.next t.event at.phase)

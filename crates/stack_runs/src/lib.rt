@@ -1,7 +1,7 @@
 //! A whole run of one stack: the opening, the calls with their tails, and the ending.
 #![tactic(auto)]
 
-ghost use Rattle.std.specs.Prelude.{◌≡◌, ◌≢◌, ◌<◌, [], true, false, length, OnOk, OnErr, IfOk};
+ghost use Rattle.std.specs.Prelude.{◌≡◌, ◌≢◌, ◌<◌, [], true, false, length, ◌&&◌, not, OnOk, OnErr, IfOk};
 ghost use Rattle.journal_types.specs.declared.Event.{Event};
 ghost use Rattle.journal_types.specs.declared.Reply.{Reply};
 ghost use Rattle.journal_types.specs.declared.Refusal.{Refusal};
@@ -9,6 +9,9 @@ ghost use Rattle.stack_rules.specs.Conditions.{may_ask};
 ghost use Rattle.first_form.specs.First.{IsFirstEvent, steps_to_go, pause_to_go};
 ghost use Rattle.stack_book.specs.Stands.{Same};
 ghost use Rattle.stack_book.specs.Turns.{AddsTurn};
+ghost use Rattle.promise_rules.specs.declared.Opening.TheVariants.{Initialising, Opened};
+ghost use Rattle.promise_rules.specs.declared.Ending.TheVariants as ending;
+ghost use Rattle.stack_runs.specs.Adds.{Adds, IsOne, ArePumps, IsCall, OpensTo, EndsTo, is_refused, pump_reply, pause_leads};
 ghost use Rattle.stack_runs.specs.Runs.{IsBetween, IsAt, Runs, MayCall, Turned, IsWaiting};
 
 use journal_types::{Asked, Event, Reply};
@@ -39,6 +42,7 @@ pub fn open_stack(book: &mut Book, alloc: Global) -> Result<(), OutOfMemory>
     requires halted { IsAt (⟦<Book as Shown>⟧.shown book.old) Phase.Halted }
     ensures between { IsBetween (⟦<Book as Shown>⟧.shown book.new) }
     ensures running { OnOk result (Runs (⟦<Book as Shown>⟧.shown book.old) (⟦<Book as Shown>⟧.shown book.new) Phase.Running) }
+    ensures added { OnOk result (Adds (OpensTo Initialising Opened) (⟦<Book as Shown>⟧.shown book.old) (⟦<Book as Shown>⟧.shown book.new)) }
 {
     ask(book, alloc, Who::Own, Event::Initialize)?;
     ask(book, alloc, Who::Own, Event::RestartNext)?;
@@ -47,7 +51,8 @@ pub fn open_stack(book: &mut Book, alloc: Global) -> Result<(), OutOfMemory>
 }
 
 fn is_moved(reply: &Reply) -> bool
-    ensures { result ≡ true → reply.now ≡ Reply.Moved }
+    ensures yes { result ≡ true → reply.now ≡ Reply.Moved }
+    ensures no { result ≡ false → reply.now ≢ Reply.Moved }
 {
     matches!(reply, Reply::Moved)
 }
@@ -66,8 +71,11 @@ fn is_waiting(reply: &Reply) -> bool
     matches!(reply, Reply::Waiting { .. })
 }
 
-fn is_refused(reply: &Reply) -> bool {
-    matches!(reply, Reply::Refused(_))
+/// Whether a call that pumps, and was answered so, has a tail.
+fn has_tail(pump: bool, reply: &Reply) -> bool
+    ensures { result ≡ (pump && not (is_refused reply.now)) }
+{
+    pump && !matches!(reply, Reply::Refused(_))
 }
 
 /// One pump: whether anything moved.
@@ -76,6 +84,7 @@ fn pump_once(book: &mut Book, alloc: Global, who: Who) -> Result<bool, OutOfMemo
     ensures between { IsBetween (⟦<Book as Shown>⟧.shown book.new) }
     ensures runs { OnOk result (Runs (⟦<Book as Shown>⟧.shown book.old) (⟦<Book as Shown>⟧.shown book.new) (⟦<Book as Shown>⟧.shown book.old).core.tray.net.phase) }
     ensures fewer { IfOk result (λ moved. moved ≡ true → steps_to_go (⟦<Book as Shown>⟧.shown book.new).core.tray.net < steps_to_go (⟦<Book as Shown>⟧.shown book.old).core.tray.net) }
+    ensures added { IfOk result (λ moved. Adds (IsOne who Event.Pump (pump_reply moved)) (⟦<Book as Shown>⟧.shown book.old) (⟦<Book as Shown>⟧.shown book.new)) }
 {
     let reply = ask(book, alloc, who, Event::Pump)?;
     Ok(is_moved(&reply))
@@ -86,6 +95,7 @@ fn pump_all(book: &mut Book, alloc: Global, who: Who) -> Result<(), OutOfMemory>
     requires between { IsBetween (⟦<Book as Shown>⟧.shown book.old) }
     ensures between { IsBetween (⟦<Book as Shown>⟧.shown book.new) }
     ensures runs { OnOk result (Runs (⟦<Book as Shown>⟧.shown book.old) (⟦<Book as Shown>⟧.shown book.new) (⟦<Book as Shown>⟧.shown book.old).core.tray.net.phase) }
+    ensures added { OnOk result (Adds (ArePumps who) (⟦<Book as Shown>⟧.shown book.old) (⟦<Book as Shown>⟧.shown book.new)) }
 {
     while pump_once(book, alloc, who)? {}
     Ok(())
@@ -105,9 +115,10 @@ pub fn run_call(
     requires may { may_ask (⟦<Book as Shown>⟧.shown book.old).core.head event ≡ true }
     ensures between { IsBetween (⟦<Book as Shown>⟧.shown book.new) }
     ensures running { OnOk result (Runs (⟦<Book as Shown>⟧.shown book.old) (⟦<Book as Shown>⟧.shown book.new) Phase.Running) }
+    ensures added { OnOk result (Adds (IsCall lane event pump) (⟦<Book as Shown>⟧.shown book.old) (⟦<Book as Shown>⟧.shown book.new)) }
 {
     let reply = ask(book, alloc, Who::Call(lane), event)?;
-    if !pump || is_refused(&reply) {
+    if !has_tail(pump, &reply) {
         return Ok(());
     }
     pump_all(book, alloc, Who::Help(lane))?;
@@ -121,6 +132,7 @@ fn drain_once(book: &mut Book, alloc: Global) -> Result<(), OutOfMemory>
     ensures between { IsBetween (⟦<Book as Shown>⟧.shown book.new) }
     ensures pausing { OnOk result (Runs (⟦<Book as Shown>⟧.shown book.old) (⟦<Book as Shown>⟧.shown book.new) Phase.Pausing) }
     ensures fewer { OnOk result (pause_to_go (⟦<Book as Shown>⟧.shown book.new).core.tray.net < pause_to_go (⟦<Book as Shown>⟧.shown book.old).core.tray.net) }
+    ensures added { OnOk result (Adds (EndsTo ending.Draining ending.Pausing) (⟦<Book as Shown>⟧.shown book.old) (⟦<Book as Shown>⟧.shown book.new)) }
 {
     ask(book, alloc, Who::Own, Event::Drain)?;
     Ok(())
@@ -133,6 +145,7 @@ fn pause_once(book: &mut Book, alloc: Global) -> Result<bool, OutOfMemory>
     ensures paused { IfOk result (λ done. done ≡ true → Runs (⟦<Book as Shown>⟧.shown book.old) (⟦<Book as Shown>⟧.shown book.new) Phase.Paused) }
     ensures pausing { IfOk result (λ done. done ≡ false → Runs (⟦<Book as Shown>⟧.shown book.old) (⟦<Book as Shown>⟧.shown book.new) Phase.Pausing) }
     ensures fewer { IfOk result (λ done. done ≡ false → pause_to_go (⟦<Book as Shown>⟧.shown book.new).core.tray.net < pause_to_go (⟦<Book as Shown>⟧.shown book.old).core.tray.net) }
+    ensures added { IfOk result (λ done. Adds (EndsTo ending.Pausing (pause_leads done)) (⟦<Book as Shown>⟧.shown book.old) (⟦<Book as Shown>⟧.shown book.new)) }
 {
     let reply = ask(book, alloc, Who::Own, Event::PauseNext)?;
     if is_waiting(&reply) {
@@ -147,6 +160,7 @@ fn pause_all(book: &mut Book, alloc: Global) -> Result<(), OutOfMemory>
     requires pausing { IsAt (⟦<Book as Shown>⟧.shown book.old) Phase.Pausing }
     ensures between { IsBetween (⟦<Book as Shown>⟧.shown book.new) }
     ensures paused { OnOk result (Runs (⟦<Book as Shown>⟧.shown book.old) (⟦<Book as Shown>⟧.shown book.new) Phase.Paused) }
+    ensures added { OnOk result (Adds (EndsTo ending.Pausing ending.PumpingLast) (⟦<Book as Shown>⟧.shown book.old) (⟦<Book as Shown>⟧.shown book.new)) }
 {
     while !pause_once(book, alloc)? {}
     Ok(())
@@ -157,6 +171,7 @@ pub fn end_stack(book: &mut Book, alloc: Global) -> Result<(), OutOfMemory>
     requires running { IsAt (⟦<Book as Shown>⟧.shown book.old) Phase.Running }
     ensures between { IsBetween (⟦<Book as Shown>⟧.shown book.new) }
     ensures halted { OnOk result (Runs (⟦<Book as Shown>⟧.shown book.old) (⟦<Book as Shown>⟧.shown book.new) Phase.Halted) }
+    ensures added { OnOk result (Adds (EndsTo ending.Pumping ending.Ended) (⟦<Book as Shown>⟧.shown book.old) (⟦<Book as Shown>⟧.shown book.new)) }
 {
     pump_all(book, alloc, Who::Own)?;
     ask(book, alloc, Who::Own, Event::BeginPause)?;

@@ -8,4 +8,4 @@ finish-requires-clause-next g c =
 
 pub returns-clause-turn : goal.returns-clause-turn
 returns-clause-turn g c =
-    adds (pump_answered _ _ c.args.asked c.write_pump-reply.result c.requires.away c.requires.event c.requires.ready c.facts.ensures c.write_pump-reply.ensures.acts) (rw c.again.ensures at c.finish.ensures.finishes)
+    adds (pump_answered _ _ c.args.asked c.write_pump-reply.result c.requires.away c.requires.event c.requires.ready c.facts.ensures c.write_pump-reply.ensures.acts) (rw c.again.ensures at c.finish.ensures.finishes) c.finish.ensures.drivers

@@ -12,4 +12,4 @@ finish-requires-clause-bytes g c =
 
 pub returns-clause-turn : goal.returns-clause-turn
 returns-clause-turn g c =
-    adds (send_answered _ _ c.args.asked c.write_send-reply.result _ _ _ c.requires.may c.in-Send.is c.requires.ready c.facts.ensures c.write_send-reply.ensures.acts) (rw c.again.ensures at c.finish.ensures.finishes)
+    adds (send_answered _ _ c.args.asked c.write_send-reply.result _ _ _ c.requires.may c.in-Send.is c.requires.ready c.facts.ensures c.write_send-reply.ensures.acts) (rw c.again.ensures at c.finish.ensures.finishes) c.finish.ensures.drivers

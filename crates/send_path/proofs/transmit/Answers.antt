@@ -8,4 +8,4 @@ finish-requires-clause-next g c =
 
 pub returns-clause-turn : goal.returns-clause-turn
 returns-clause-turn g c =
-    adds (transmit_answered _ _ c.args.asked c.write_transmit-reply.result c.requires.event c.requires.ready c.facts.ensures c.write_transmit-reply.ensures.acts) (rw c.again.ensures at c.finish.ensures.finishes)
+    adds (transmit_answered _ _ c.args.asked c.write_transmit-reply.result c.requires.event c.requires.ready c.facts.ensures c.write_transmit-reply.ensures.acts) (rw c.again.ensures at c.finish.ensures.finishes) c.finish.ensures.drivers

@@ -12,4 +12,4 @@ pub returns-clause-turn : goal.returns-clause-turn
 returns-clause-turn g c =
     adds (idle_answered _ _ c.requires.ready c.facts.ensures c.requires.event
     (still_from _ _ c.is_some.ensures c.if-is_some.false c.first_away.ensures.none c.ledger.ensures))
-    (rw c.again.ensures at c.finish.ensures.finishes)
+    (rw c.again.ensures at c.finish.ensures.finishes) c.finish.ensures.drivers

@@ -1,5 +1,6 @@
 use Rattle.std.proofs.Common.{◌≡◌, map}
 use Rattle.first_form.specs.First.{steps_to_go}
+use Rattle.stack_runs.specs.Adds.{Adds, AreMoves}
 use Rattle.stack_runs.specs.Runs.{IsBetween}
 use Rattle.stack_runs.proofs.pump_all.Given as goal
 
@@ -13,6 +14,19 @@ invariant-loop g l = record {
     protocols = map (λ d. (goal.ProtocolDriver-dyn g (d.vtable, d.value)).state d.value) l.book.protocols.items;
   });
   head : l.book.core.head ≡ l.initial.book.core.head;
+  added : Adds (AreMoves l.who) (record {
+    core = l.initial.book.core;
+    miniport = (goal.MiniportDriver-dyn g (l.initial.book.miniport.vtable, l.initial.book.miniport.value)).state l.initial.book.miniport.value;
+    log_room = (goal.MiniportDriver-dyn g (l.initial.book.miniport.vtable, l.initial.book.miniport.value)).log_room l.initial.book.miniport.value;
+    log_bytes = (goal.MiniportDriver-dyn g (l.initial.book.miniport.vtable, l.initial.book.miniport.value)).log_bytes l.initial.book.miniport.value;
+    protocols = map (λ d. (goal.ProtocolDriver-dyn g (d.vtable, d.value)).state d.value) l.initial.book.protocols.items;
+  }) (record {
+    core = l.book.core;
+    miniport = (goal.MiniportDriver-dyn g (l.book.miniport.vtable, l.book.miniport.value)).state l.book.miniport.value;
+    log_room = (goal.MiniportDriver-dyn g (l.book.miniport.vtable, l.book.miniport.value)).log_room l.book.miniport.value;
+    log_bytes = (goal.MiniportDriver-dyn g (l.book.miniport.vtable, l.book.miniport.value)).log_bytes l.book.miniport.value;
+    protocols = map (λ d. (goal.ProtocolDriver-dyn g (d.vtable, d.value)).state d.value) l.book.protocols.items;
+  });
   phase : l.book.core.tray.net.phase ≡ l.initial.book.core.tray.net.phase;
 }
 

@@ -6,4 +6,4 @@ pub finish-requires-clause-next : goal.finish-requires-clause-next
 finish-requires-clause-next g c = rw c.again.ensures (finish_next (pause_ends c.requires.ready c.facts.ensures c.requires.event c.write_pause-reply.ensures.acts))
 
 pub returns-clause-turn : goal.returns-clause-turn
-returns-clause-turn g c = adds (pause_ends c.requires.ready c.facts.ensures c.requires.event c.write_pause-reply.ensures.acts) (rw c.again.ensures at c.finish.ensures.finishes)
+returns-clause-turn g c = adds (pause_ends c.requires.ready c.facts.ensures c.requires.event c.write_pause-reply.ensures.acts) (rw c.again.ensures at c.finish.ensures.finishes) c.finish.ensures.drivers

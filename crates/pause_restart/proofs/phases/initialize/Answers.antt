@@ -9,4 +9,4 @@ finish-requires-clause-next g c =
 
 pub returns-in-Ok-clause-turn : goal.returns-in-Ok-clause-turn
 returns-in-Ok-clause-turn g c =
-    adds_turn _ _ (answered _ _ _ _ event.Initialize c.requires.ready c.facts.ensures c.requires.event refl (omega arith) c.in-Ok.ensures.acts) c.again.ensures c.finish.ensures.finishes
+    adds_turn _ _ (answered _ _ _ _ event.Initialize c.requires.ready c.facts.ensures c.requires.event refl (omega arith) c.in-Ok.ensures.acts) c.again.ensures c.finish.ensures.finishes c.finish.ensures.drivers

@@ -9,4 +9,4 @@ finish-requires-clause-next g c =
 
 pub returns-clause-turn : goal.returns-clause-turn
 returns-clause-turn g c =
-    adds_turn _ _ (answered _ _ _ _ event.RestartNext c.requires.ready c.facts.ensures c.requires.event refl (omega arith) c.write_restart-reply.ensures.acts) c.again.ensures c.finish.ensures.finishes
+    adds_turn _ _ (answered _ _ _ _ event.RestartNext c.requires.ready c.facts.ensures c.requires.event refl (omega arith) c.write_restart-reply.ensures.acts) c.again.ensures c.finish.ensures.finishes c.finish.ensures.drivers

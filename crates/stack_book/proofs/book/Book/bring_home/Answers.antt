@@ -27,4 +27,4 @@ pub returns-clause-writes : goal.returns-clause-writes
 returns-clause-writes g c = λ x first.
     let taken = takes (c.in-Some.ensures.some c.in-Some.list refl) c.requires.stands c.requires.ready c.requires.first c.facts.ensures in
     let now = home_core_is c.dequeue.new.self c.write.new.self c.free.new.self c.in-Some.list c.number.result c.args.binding c.args.status _ c.number.ensures c.write.ensures c.free.ensures.core in
-    rw now (home_writes _ _ x taken first)
+    rw now (home_writes _ _ x taken c.sent_at.ensures first)

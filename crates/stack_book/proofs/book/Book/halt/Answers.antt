@@ -24,4 +24,4 @@ pub returns-clause-stands : goal.returns-clause-stands
 returns-clause-stands g c = halt_stands _ _ _ _ c.requires.stands c.write_bindings.ensures c.write_states.ensures c.write.ensures c.halt_boxed.ensures c.close_all.ensures
 
 pub returns-clause-writes : goal.returns-clause-writes
-returns-clause-writes g c = halt_writes _ _ _ _ (first_now _ _ _ _ c.facts.ensures c.requires.ready.idle) c.write_bindings.ensures c.write_states.ensures c.write.ensures
+returns-clause-writes g c = halt_writes _ _ _ _ (first_now _ _ _ _ c.facts.ensures c.requires.ready.idle) c.write_bindings.ensures c.write_states.ensures c.write.ensures c.halt_boxed.ensures c.close_all.ensures

@@ -23,3 +23,4 @@ returns-clause-stands g c =
 pub returns-clause-writes : goal.returns-clause-writes
 returns-clause-writes g c =
     initialize_writes _ _ _ _ _ _ c.in_ok-set_up.ensures.ok.core c.write_states.ensures c.write_bindings.ensures c.write.ensures (no_filters c.write.new.self _ _ (c.of.ensures ∙ c.new.ensures.items) c.write-2.ensures)
+    c.in_ok-set_up.ensures.ok.miniport c.in_ok-set_up.ensures.ok.protocols

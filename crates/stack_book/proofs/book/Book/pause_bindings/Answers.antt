@@ -7,7 +7,7 @@ pub returns-clause-stands : goal.returns-clause-stands
 returns-clause-stands g c = top_stands _ _ _ c.requires.stands c.requires.pausing c.write_bindings.ensures c.write_states.ensures c.pause_boxed.ensures refl
 
 pub returns-clause-writes : goal.returns-clause-writes
-returns-clause-writes g c = top_writes _ _ _ (first_now _ _ _ _ c.facts.ensures c.requires.ready.idle) c.write_bindings.ensures c.write_states.ensures
+returns-clause-writes g c = top_writes _ _ _ (first_now _ _ _ _ c.facts.ensures c.requires.ready.idle) c.write_bindings.ensures c.write_states.ensures c.pause_boxed.ensures refl
 
 pub write_states-requires-clause-room : goal.write_states-requires-clause-room
 write_states-requires-clause-room g c =

@@ -6,4 +6,4 @@ pub returns-clause-stands : goal.returns-clause-stands
 returns-clause-stands g c = bottom_stands _ _ _ c.requires.stands c.requires.pausing c.write_states.ensures c.write.ensures refl refl
 
 pub returns-clause-writes : goal.returns-clause-writes
-returns-clause-writes g c = bottom_writes _ _ _ (first_now _ _ _ _ c.facts.ensures c.requires.ready.idle) c.write_states.ensures c.write.ensures
+returns-clause-writes g c = bottom_writes _ _ _ (first_now _ _ _ _ c.facts.ensures c.requires.ready.idle) c.write_states.ensures c.write.ensures refl refl

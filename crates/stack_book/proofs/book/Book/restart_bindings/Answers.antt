@@ -7,7 +7,7 @@ pub returns-clause-stands : goal.returns-clause-stands
 returns-clause-stands g c = high_stands _ _ _ c.requires.stands c.requires.restarting c.write_bindings.ensures c.write.ensures refl c.restart_all.ensures
 
 pub returns-clause-writes : goal.returns-clause-writes
-returns-clause-writes g c = high_writes _ _ _ (first_now _ _ _ _ c.facts.ensures c.requires.ready.idle) c.requires.restarting c.write_bindings.ensures c.write.ensures
+returns-clause-writes g c = high_writes _ _ _ (first_now _ _ _ _ c.facts.ensures c.requires.ready.idle) c.requires.restarting c.write_bindings.ensures c.write.ensures refl c.restart_all.ensures
 
 pub write-requires-clause-room : goal.write-requires-clause-room
 write-requires-clause-room g c =

@@ -1,8 +1,9 @@
 use Rattle.std.proofs.Common.{◌≡◌, ◌≤◌, ◌∙◌, ap, arith, length}
-use Rattle.std.proofs.Common.{refl}
+use Rattle.std.proofs.Common.{refl, rules}
 use Rattle.ndis_base.specs.declared.ListNo.{ListNo}
 use Rattle.buffer_pools.specs.declared.label.Label.{Label}
 use Rattle.stack_core.specs.Views.{CoreView}
+use Rattle.stack_book.proofs.Did.{silent_did}
 use Rattle.stack_book.proofs.Pools.{pools_length, pool_of_setup, has_spare, may_issue}
 use Rattle.stack_book.proofs.Sends.{sent_core_is, sent_stands}
 use Rattle.stack_book.proofs.book.Book.send_list.Goals as goal
@@ -38,3 +39,15 @@ returns-clause-stands g c =
     (ap (λ (x : Label). x.number) c.issue-list.ensures.label ∙ number)
     (ap (λ (x : Label). x.owner) c.issue-list.ensures.label)
     (rw (c.issue-list.ensures.frames, c.items.ensures) c.requires.fits))
+
+pub returns-clause-writes : goal.returns-clause-writes
+returns-clause-writes g c = record {
+  head = search rules;
+  turns = search rules;
+  net = search rules;
+  rows = search rules;
+  room = search rules;
+  row_room = search rules;
+  byte_room = search rules;
+  drivers = silent_did _ _ _ (record { gives = refl; logs = refl; homes = λ b. refl }) refl refl;
+}
