@@ -1,5 +1,5 @@
 -- A cancel adds nothing to the work, where everything stands in its place.
-use Rattle.std.proofs.Common.{◌≡◌, ℕ, ◌+◌, ◌≤◌, ◌==◌, ◌&&◌, ◌||◌, Bool, true, false, cond, List, [], ◌∷◌, ◌++◌, Option, Some, None, refl, arith, ap, sym, subst, ◌∙◌, filter, map}
+use Rattle.std.proofs.Common.{◌≡◌, ℕ, ◌+◌, ◌≤◌, ◌==◌, ◌&&◌, ◌||◌, Bool, true, false, cond, List, [], ◌∷◌, ◌++◌, Some, refl, arith, ap, sym, subst, ◌∙◌, filter, map}
 use Rattle.std.specs.List.{flat_map}
 use Rattle.std.proofs.lemmas.Bool.Decides.{nat_tests}
 use Rattle.ndis_base.specs.declared.ListStatus.{ListStatus}
@@ -12,22 +12,20 @@ use Rattle.journal_types.specs.declared.Target.{Target}
 use Rattle.journal_types.specs.declared.Row.{Row}
 use Rattle.journal_types.specs.declared.Row.TheVariants as row
 use Rattle.stack_rules.specs.declared.LiveList.{LiveList}
-use Rattle.stack_rules.specs.declared.Stand.{Stand}
 use Rattle.stack_rules.specs.declared.Stand.TheVariants as stand
 use Rattle.stack_rules.specs.declared.Thing.{Thing}
 use Rattle.stack_rules.specs.declared.Thing.TheVariants as thing
 use Rattle.stack_rules.specs.Tests.{is_down, same_number}
-use Rattle.stack_rules.specs.Net.{Net, Modules, after, after_rows, lists, list_of, changed, had_by, passed}
+use Rattle.stack_rules.specs.Net.{Net, after, after_rows, lists, list_of, changed, had_by, passed}
 use Rattle.stack_rules.specs.Places.{position, has_clone, ready_lists}
 use Rattle.stack_rules.specs.Targets.{next_done}
 use Rattle.stack_rules.specs.Rewires.{is_in}
 use Rattle.stack_rules.specs.Cancels.{holds_lists, is_named, cancelled_at, aborted, cancel_rows_at, queues, cancel_outcome}
-use Rattle.stack_rules.specs.Work.{bottom, kept_work, list_work, work}
+use Rattle.stack_rules.specs.Work.{kept_work, list_work}
 use Rattle.rule_basics.specs.Live.{IsApart, Each}
 use Rattle.rule_basics.specs.Numbers.{IsNumbered}
 use Rattle.rule_basics.proofs.Numbered.{numbered_after}
 use Rattle.state_laws.specs.Shape.{IsDistinct}
-use Rattle.home_laws.proofs.Known.{by_test}
 use Rattle.place_laws.specs.Kept.{IsInPlace}
 use Rattle.work_laws.proofs.Weights.{Stay, weight, load, work_least, work_after, load_moved, load_back, passed_work}
 use Rattle.work_laws.proofs.Clones.{clones_after}

@@ -1,5 +1,4 @@
 -- After every sound journal of a stack that isn't Halted everything stands in its place.
-use Rattle.journal_types.specs.declared.StackHead.{StackHead}
 use Rattle.stack_rules.specs.Net.{seen}
 use Rattle.place_laws.specs.Listed.{IsListed}
 use Rattle.place_laws.proofs.Turns.{lists_stand}
