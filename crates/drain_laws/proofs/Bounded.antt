@@ -28,6 +28,7 @@ use Rattle.stack_rules.specs.Sound.{outcome, Next, SoundFrom}
 use Rattle.stack_rules.specs.Work.{work}
 use Rattle.rule_basics.proofs.Counts.{one_if, count_by-cons}
 use Rattle.home_laws.proofs.Known.{by_test}
+use Rattle.home_laws.proofs.Standing.{sound_front}
 use Rattle.state_laws.proofs.Rows.{after_rows-append}
 use Rattle.state_laws.proofs.Events.{state_after, plain_same, turn_is}
 use Rattle.place_laws.specs.Kept.{IsInPlace}
@@ -37,7 +38,7 @@ use Rattle.work_laws.proofs.Adds.{Adds, pause_adds}
 use Rattle.work_laws.proofs.Filters.{Lowers}
 use Rattle.work_laws.proofs.Drains.{drain_lowers, loops_running}
 use Rattle.drain_laws.specs.Drains.{is_draining, is_moved, drains_some, DrainsAreBounded}
-use Rattle.drain_laws.proofs.Reached.{IsReached, reached_front, reached_next, sound_rest}
+use Rattle.drain_laws.proofs.Reached.{IsReached, reached_front, reached_next, some_binding, sound_rest}
 
 -- a drain moves something, or is idle and leaves all as it is
 abbrev pub MovesOrIdles : Outcome → Type 0
@@ -152,5 +153,5 @@ bounded each head some net (turn ∷ more) r s n d =
     omega (arith, first, rest, whole)
 
 pub drains_bounded : EachInPlace → DrainsAreBounded
-drains_bounded each head turns more s some p d =
-    bounded each head some (seen head turns) more (reached_front head turns more s) (ap is_still p) (sound_rest head turns more s) d
+drains_bounded each head turns more s p d =
+    bounded each head (some_binding head turns (sound_front head turns more s) p) (seen head turns) more (reached_front head turns more s) (ap is_still p) (sound_rest head turns more s) d

@@ -42,6 +42,7 @@ use Rattle.work_laws.specs.InPlace.{EachInPlace}
 use Rattle.work_laws.proofs.Drains.{Each-both, drain_lowers, loops_running}
 use Rattle.drain_laws.specs.Resting.{Rests, IsResting}
 use Rattle.drain_laws.specs.Drains.{NoneCrossed, IdleIsEmpty, IdleWhereDone}
+use Rattle.drain_laws.proofs.Reached.{some_binding}
 use Rattle.drain_laws.proofs.Bounded.{MovesOrIdles, drain_moves, is_still, still_runs, in_place}
 use Rattle.drain_laws.proofs.Rests.{lists_rest}
 use Rattle.drain_laws.proofs.Served.{requests_served}
@@ -246,8 +247,9 @@ pub drain_reply : (net : Net) (turn : Turn) (n : Next net turn) → turn.event �
 drain_reply net turn n e = n.reply ∙ ap (λ (e : Event). (outcome net e n.choice).reply) e
 
 pub idle_is_empty : EachInPlace → IdleIsEmpty
-idle_is_empty each head turns turn s n some p free e i =
+idle_is_empty each head turns turn s n p free e i =
     let net : Net = seen head turns in
+    let some : 1 ≤ length head.bindings = some_binding head turns s p in
     let still : is_still net.phase ≡ true = ap is_still p in
     let place : IsInPlace net = in_place each head net some (record { turns = turns; sound = s; is = refl }) still in
     let idle = idle_drain net n.choice.keeps (sym (drain_reply net turn n e) ∙ i) in
@@ -269,5 +271,5 @@ idle_work each head turns turn s n some p e z = by (drain_moves (seen head turns
         absurd (omega (arith, less, z))
 
 pub idle_where_done : EachInPlace → IdleWhereDone
-idle_where_done each head turns turn s n some p free e =
-    (λ i. let gone = idle_is_empty each head turns turn s n some p free e i in nothing_left (seen head turns) gone.0 gone.1, λ z. idle_work each head turns turn s n some p e z)
+idle_where_done each head turns turn s n p free e =
+    (λ i. let gone = idle_is_empty each head turns turn s n p free e i in nothing_left (seen head turns) gone.0 gone.1, λ z. idle_work each head turns turn s n (some_binding head turns s p) p e z)

@@ -42,7 +42,7 @@ use Rattle.work_laws.specs.InPlace.{EachInPlace}
 use Rattle.work_laws.proofs.Drains.{drain_lowers, loops_running}
 use Rattle.drain_laws.specs.Resting.{IsResting}
 use Rattle.drain_laws.specs.Drains.{is_draining, is_moved, drains_some, NoneCrossed, is_waiting, ends_pause, goes_on, is_ended, PauseBegins, PausesAndDrains, PausesInTime}
-use Rattle.drain_laws.proofs.Reached.{IsReached, reached_front, reached_next, sound_rest, of_reached}
+use Rattle.drain_laws.proofs.Reached.{IsReached, reached_front, reached_next, some_binding, sound_rest, of_reached}
 use Rattle.drain_laws.proofs.Bounded.{MovesOrIdles, drain_moves, is_still, still_runs, phase_states, turn_lessens, in_place}
 use Rattle.drain_laws.proofs.Resting.{Rest, none}
 use Rattle.drain_laws.proofs.Rested.{drain_rest}
@@ -200,7 +200,7 @@ module _ (each : EachInPlace) (head : StackHead) (some : 1 ≤ length head.bindi
   idle_reached : (net : Net) (turn : Turn) → IsReached head net → net.phase ≡ phase.Pausing → NoneCrossed net → Next net turn → turn.event ≡ event.Drain → turn.reply ≡ reply.Idle → lists net.things ≡ []
   idle_reached net turn r =
       subst (λ m. m.phase ≡ phase.Pausing → NoneCrossed m → Next m turn → turn.event ≡ event.Drain → turn.reply ≡ reply.Idle → lists m.things ≡ []) r.is
-      (λ p free n e i. ap lists (idle_is_empty each head r.turns turn r.sound n some p free e i).0)
+      (λ p free n e i. ap lists (idle_is_empty each head r.turns turn r.sound n p free e i).0)
 
   moves : (net : Net) (turn : Turn) → IsReached head net → net.phase ≡ phase.Pausing → NoneCrossed net → Next net turn → turn.event ≡ event.Drain → (lists net.things ≡ [] → ⊥) → drains_some turn ≡ true
   moves net turn r p free n e live = by (drain_moves net n.choice.keeps)
@@ -317,8 +317,9 @@ module _ (each : EachInPlace) (head : StackHead) (some : 1 ≤ length head.bindi
   left (turn ∷ more) false net front r h free live s p = pause_left turn more (left more) net front r h free s p
 
 pub pauses_in_time : EachInPlace → PausesInTime
-pauses_in_time each head turns more s some p free d =
+pauses_in_time each head turns more s p free d =
     let net : Net = seen head turns in
+    let some : 1 ≤ length head.bindings = some_binding head turns (sound_front head turns more s) p in
     let r : IsReached head net = reached_front head turns more s in
     let start = at_start head turns (sound_front head turns more s) p in
     let all : Left each head some false net start.0 more = left each head some more false net start.0 r start.1 free (λ e. absurd (cc)) (sound_rest head turns more s) d in
