@@ -63,8 +63,8 @@ fn asked_at(alloc: Global, turn: usize) -> Result<Option<(Who, Event)>, OutOfMem
     })
 }
 
-/// One turn, where the event may be asked.
-fn ask(stack: &mut WalkedStack, who: Who, event: Event) -> Result<bool, OutOfMemory>
+/// One turn, where the event may be asked: a sound journal stays sound.
+pub fn ask(stack: &mut WalkedStack, who: Who, event: Event) -> Result<bool, OutOfMemory>
     requires { Sound stack.old.head stack.old.turns }
     ensures { IfOk result (λ done. done ≡ true → Sound stack.new.head stack.new.turns) }
 {
