@@ -2,7 +2,6 @@
 use Rattle.std.proofs.Common.{ℕ, ◌≡◌, ◌≢◌, ◌==◌, ◌&&◌, Bool, true, false, List, [], ◌∷◌, ◌++◌, Option, Some, None, not, if◌then◌else◌, All, refl, ap, ap₂, sym, subst, ◌∙◌, inl, inr, ◌⊎◌, arith, eq-eqb, ◌≤◌, ◌<◌, ◌-◌, length, take, drop, get_or}
 use Rattle.std.specs.List.{list_all}
 use Rattle.std.proofs.lemmas.List.{append_assoc, take_rest}
-
 use Rattle.std.proofs.lemmas.List.Elements.{All-append, All-cons, All-nil}
 use Rattle.std.proofs.lemmas.Bool.Decides.{nat_tests}
 use Rattle.ndis_base.specs.declared.LaneNo.{LaneNo}
