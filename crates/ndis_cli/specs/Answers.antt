@@ -10,11 +10,12 @@ use Rattle.script_types.specs.declared.ScriptCause.{ScriptCause}
 use Rattle.script_types.specs.declared.ScriptCause.TheVariants as cause
 use Rattle.script_types.specs.declared.ScriptFault.TheVariants as fault
 use Rattle.script_forms.specs.Script.{Says}
+use Rattle.home_laws.specs.Rows.{rows_of}
 use Rattle.stack_book.specs.Parts.{PartsView}
 use Rattle.script_runs.specs.Built.{is_built, IsRun}
 use Rattle.script_runs.specs.Drivers.{LacksDrivers, ComeBack}
 use Rattle.ndis_cli.specs.declared.top.Status.{Status}
-use Rattle.ndis_cli.specs.declared.top.Status.TheVariants.{Done, Usage, BadScript, ReadFault, WriteFault, Memory, NoParts}
+use Rattle.ndis_cli.specs.declared.top.Status.TheVariants.{Done, Usage, BadScript, ReadFault, Memory, NoParts}
 
 -- the bytes are the text of this script, where they are told
 abbrev pub IsOf : Option (List ℕ) → Script → Type 0
@@ -29,14 +30,21 @@ pub data IsFaulty (bytes : List ℕ) (at : ScriptPlace) (why : ScriptCause) : Ty
 abbrev pub Adds : Option (List ℕ) → Option (List ℕ) → List ℕ → Type 0
 Adds held held' text = held' ≡ after held text
 
--- the bytes are a script that was run: its journal is of its stack, and sound; and what was written is the
--- report of that journal, or, with AddsPrefix, a prefix of it
-pub record Wrote (How : Option (List ℕ) → Option (List ℕ) → List ℕ → Type 0) (left : Option (List ℕ)) (held held' : Option (List ℕ)) : Type 0 where
+-- the bytes are a script that was run over the first of the parts: its journal is of its stack, sound, and as
+-- the laws and the script ask; the stack's drivers came back and did what its rows say; and what was written is
+-- the report of that journal, or, with AddsPrefix, a prefix of it
+pub record Wrote (How : Option (List ℕ) → Option (List ℕ) → List ℕ → Type 0) (left : Option (List ℕ)) (parts parts' : List PartsView) (held held' : Option (List ℕ)) : Type 0 where
   pub script : Script
   pub is : IsOf left script
   pub built : is_built script ≡ true
   pub journal : Written
   pub ran : IsRun script journal.head journal.turns
+  pub first : PartsView
+  pub first' : PartsView
+  pub others : List PartsView
+  pub handed : parts ≡ first ∷ others
+  pub returned : parts' ≡ first' ∷ others
+  pub back : ComeBack script.stacks (rows_of journal.turns) first first'
   pub written : How held held' (report (journal ∷ []) [])
 
 -- the bytes are a script that can be run
@@ -60,17 +68,6 @@ pub record LacksParts (left : Option (List ℕ)) (parts : List PartsView) (stack
   pub only : stack ≡ 0
   pub lacks : LacksFirst script parts
 
--- the bytes are a script that was run over the first of the parts, whose drivers came back
-pub record AreBack (left : Option (List ℕ)) (parts parts' : List PartsView) : Type 0 where
-  pub script : Script
-  pub is : IsOf left script
-  pub first : PartsView
-  pub more : List PartsView
-  pub handed : parts ≡ first ∷ more
-  pub first' : PartsView
-  pub returned : parts' ≡ first' ∷ more
-  pub back : ComeBack script.stacks first first'
-
 -- the call ended before its run
 abbrev pub is_early : Status → Bool
 is_early Usage = true
@@ -78,12 +75,6 @@ is_early (BadScript at why) = true
 is_early ReadFault = true
 is_early (NoParts stack) = true
 is_early _ = false
-
--- a script was run, and its report was begun
-abbrev pub is_run : Status → Bool
-is_run Done = true
-is_run WriteFault = true
-is_run _ = false
 
 -- done, or memory ran out
 abbrev pub IsDone : Status → Type 0

@@ -1,13 +1,14 @@
 //! The top call.
-ghost use Rattle.std.specs.Prelude.{◌≡◌, ◌≢◌, ◌↔◌, ◌⊎◌, ℕ, false, All, OnOk, IfOk, IfErr, IfSome, IsTrue, true, map, string_bytes};
+ghost use Rattle.std.specs.Prelude.{◌≡◌, ◌≢◌, ◌↔◌, ◌⊎◌, ℕ, [], false, All, OnOk, IfOk, IfErr, IfSome, IsTrue, true, map, string_bytes};
 ghost use Rattle.outside_io.specs.Edges.{Rose, AddsPrefix};
 ghost use Rattle.script_types.specs.declared.ScriptPlace.{ScriptPlace};
 ghost use Rattle.script_types.specs.declared.ScriptCause.{ScriptCause};
+ghost use Rattle.home_laws.specs.Rows.{rows_of};
 ghost use Rattle.stack_book.specs.Open.{AreIdle};
 ghost use Rattle.script_runs.specs.Built.{is_built, IsRun};
 ghost use Rattle.script_runs.specs.Drivers.{LacksDrivers, ComeBack};
 ghost use Rattle.ndis_cli.specs.Words as form;
-ghost use Rattle.ndis_cli.specs.Answers.{IsFaulty, Adds, Wrote, IsFine, LacksFirst, LacksParts, AreBack, is_early, is_run, IsDone, IsWanting};
+ghost use Rattle.ndis_cli.specs.Answers.{IsFaulty, Adds, Wrote, IsFine, LacksFirst, LacksParts, is_early, IsDone, IsWanting};
 
 use crate::words::is_form;
 use journal_types::Journal;
@@ -65,18 +66,19 @@ pub fn ndis_serial<S: Source, K: Sink>(
     ensures bad { (at : ScriptPlace) (why : ScriptCause) → result ≡ Status.BadScript at why → IfSome (S.left source.old) (λ bytes. IsFaulty bytes at why) }
     // Drivers are wanting for the only stack of a script that can be run.
     ensures no_parts { (k : ℕ) → result ≡ Status.NoParts k → LacksParts (S.left source.old) (map (λ p. ⟦<StackParts as Handed>⟧.handed p) parts.old.items) k }
+    // After a run nothing is left to be read.
+    ensures read { result ≡ Status.Done → IfSome (S.left source.new) (λ rest. rest ≡ []) }
     // Faults of the outside.
     ensures read_fault { result ≡ Status.ReadFault → Rose (S.faults source.old) (S.faults source.new) }
     ensures write_fault { result ≡ Status.WriteFault → Rose (K.faults sink.old) (K.faults sink.new) }
     // The report of a run of the script, whole, or a prefix of one.
-    ensures done { result ≡ Status.Done → Wrote Adds (S.left source.old) (K.holds sink.old) (K.holds sink.new) }
-    ensures cut { result ≡ Status.WriteFault → Wrote AddsPrefix (S.left source.old) (K.holds sink.old) (K.holds sink.new) }
-    ensures memory { result ≡ Status.Memory → (K.holds sink.new ≡ K.holds sink.old) ⊎ Wrote AddsPrefix (S.left source.old) (K.holds sink.old) (K.holds sink.new) }
+    ensures done { result ≡ Status.Done → Wrote Adds (S.left source.old) (map (λ p. ⟦<StackParts as Handed>⟧.handed p) parts.old.items) (map (λ p. ⟦<StackParts as Handed>⟧.handed p) parts.new.items) (K.holds sink.old) (K.holds sink.new) }
+    ensures cut { result ≡ Status.WriteFault → Wrote AddsPrefix (S.left source.old) (map (λ p. ⟦<StackParts as Handed>⟧.handed p) parts.old.items) (map (λ p. ⟦<StackParts as Handed>⟧.handed p) parts.new.items) (K.holds sink.old) (K.holds sink.new) }
+    ensures memory { result ≡ Status.Memory → (K.holds sink.new ≡ K.holds sink.old) ⊎ Wrote AddsPrefix (S.left source.old) (map (λ p. ⟦<StackParts as Handed>⟧.handed p) parts.old.items) (map (λ p. ⟦<StackParts as Handed>⟧.handed p) parts.new.items) (K.holds sink.old) (K.holds sink.new) }
     // Where nothing was run nothing is written, and the drivers are as they were.
     ensures silent { IsTrue (is_early result) → K.holds sink.new ≡ K.holds sink.old }
     ensures kept { IsTrue (is_early result) → parts.new.items ≡ parts.old.items }
-    // After a run the drivers of its stack come back first; whatever comes back may be handed in again.
-    ensures back { IsTrue (is_run result) → AreBack (S.left source.old) (map (λ p. ⟦<StackParts as Handed>⟧.handed p) parts.old.items) (map (λ p. ⟦<StackParts as Handed>⟧.handed p) parts.new.items) }
+    // Whatever drivers come back may be handed in again.
     ensures idle { All (λ p. AreIdle (⟦<StackParts as Handed>⟧.handed p)) parts.new.items }
     ensures shelves { map (λ p. p.shelf) parts.new.items ≡ map (λ p. p.shelf) parts.old.items }
     // Where nothing is amiss it is done, or drivers are wanting, unless memory runs out.
@@ -129,7 +131,7 @@ fn run_over(alloc: Global, script: &Script, parts: &mut StackParts) -> Result<Jo
     requires built { is_built script.now ≡ true }
     requires idle { AreIdle (⟦<StackParts as Handed>⟧.handed parts.old) }
     ensures run { IfOk result (λ journal. IsRun script.now journal.head journal.turns) }
-    ensures back { OnOk result (ComeBack script.now.stacks (⟦<StackParts as Handed>⟧.handed parts.old) (⟦<StackParts as Handed>⟧.handed parts.new)) }
+    ensures back { IfOk result (λ journal. ComeBack script.now.stacks (rows_of journal.turns) (⟦<StackParts as Handed>⟧.handed parts.old) (⟦<StackParts as Handed>⟧.handed parts.new)) }
     ensures enough { OnOk result (¬ LacksDrivers script.now.stacks (⟦<StackParts as Handed>⟧.handed parts.old)) }
     ensures lacks { IfErr result (λ e. e ≡ RunFault.NoParts → LacksDrivers script.now.stacks (⟦<StackParts as Handed>⟧.handed parts.old)) }
     ensures unchanged { IfErr result (λ e. e ≢ RunFault.Lost → parts.new ≡ parts.old) }

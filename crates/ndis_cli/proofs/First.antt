@@ -1,0 +1,46 @@
+-- The first of the parts.
+use Rattle.std.proofs.Common.{◌≡◌, ℕ, ◌<◌, List, [], ◌∷◌, ◌++◌, Option, Result, Ok, map, length, slice_index_or, slice_set, All, refl, sym, ap, subst, ◌∙◌, arith}
+use Rattle.std.specs.Prelude.{IfSome}
+use Rattle.std.proofs.lemmas.List.Elements.{All-set}
+use Rattle.std.proofs.Math.Seq.{map-set_same}
+use Rattle.outside_io.specs.Edges.{before}
+use Rattle.script_types.specs.declared.Script.{Script}
+use Rattle.script_types.specs.declared.StackSetup.{StackSetup}
+use Rattle.script_file.specs.Reads.{ReadsAs}
+use Rattle.stack_book.specs.Parts.{PartsView}
+use Rattle.script_runs.specs.Drivers.{LacksDrivers, ComeBack}
+use Rattle.ndis_cli.specs.Answers.{IsOf, LacksFirst, AreBack}
+
+-- what the first lacks is lacking
+pub lacks_first : {X : Type 0} (f : X → PartsView) (script : Script) (xs : List X) (x : X) → 0 < length xs → x ≡ slice_index_or xs 0 x → LacksDrivers script.stacks (f x) → LacksFirst script (map f xs)
+lacks_first f script [] x some e l = absurd (omega (arith, some))
+lacks_first f script (y ∷ xs) x some e l = subst (λ z. LacksDrivers script.stacks (f z)) e l
+
+pub first_lacks : {X : Type 0} (f : X → PartsView) (script : Script) (xs : List X) (x : X) → 0 < length xs → x ≡ slice_index_or xs 0 x → LacksFirst script (map f xs) → LacksDrivers script.stacks (f x)
+first_lacks f script [] x some e l = absurd (omega (arith, some))
+first_lacks f script (y ∷ xs) x some e l = subst (λ z. LacksDrivers script.stacks (f z)) (sym e) l
+
+-- none at all
+pub none_first : {X : Type 0} (f : X → PartsView) (script : Script) (xs : List X) → length xs ≡ 0 → LacksFirst script (map f xs)
+none_first f script [] none = tt
+none_first f script (x ∷ xs) none = absurd (omega (arith, none))
+
+-- the first was put back as it was
+pub first_same : {X : Type 0} (xs : List X) (x x' : X) → 0 < length xs → x ≡ slice_index_or xs 0 x → x' ≡ x → slice_set xs 0 x' ≡ xs
+first_same [] x x' some e same = absurd (omega (arith, some))
+first_same (y ∷ xs) x x' some e same = ap (λ z. z ∷ xs) (same ∙ e)
+
+-- the first came back
+pub first_back : {X : Type 0} (f : X → PartsView) (left : Option (List ℕ)) (script : Script) (xs : List X) (x x' : X) → IsOf left script → 0 < length xs → x ≡ slice_index_or xs 0 x → ComeBack script.stacks (f x) (f x')
+    → AreBack left (map f xs) (map f (slice_set xs 0 x'))
+first_back f left script [] x x' is some e back = absurd (omega (arith, some))
+first_back f left script (y ∷ xs) x x' is some e back = record {
+  script = script;
+  is = is;
+  first = f x;
+  more = map f xs;
+  handed = ap (λ z. f z ∷ map f xs) (sym e);
+  now = f x';
+  returned = refl;
+  back = back;
+}
