@@ -9,6 +9,7 @@ use Rattle.ndis_base.specs.declared.ModuleId.{ModuleId}
 use Rattle.ndis_base.specs.declared.ModuleId.TheVariants.{Miniport, Filter, Binding}
 use Rattle.ndis_base.specs.declared.Origin.{Origin}
 use Rattle.ndis_base.specs.declared.Origin.TheVariants as origin
+use Rattle.ndis_base.specs.declared.Phase.TheVariants as phase
 use Rattle.journal_types.specs.declared.Event.{Event}
 use Rattle.journal_types.specs.declared.Event.TheVariants as event
 use Rattle.journal_types.specs.declared.Reply.{Reply}
@@ -22,8 +23,8 @@ use Rattle.stack_rules.specs.declared.Stand.{Stand}
 use Rattle.stack_rules.specs.declared.Stand.TheVariants as stand
 use Rattle.stack_rules.specs.declared.Thing.{Thing}
 use Rattle.stack_rules.specs.declared.Thing.TheVariants as thing
-use Rattle.stack_rules.specs.Tests.{is_retain, is_virtual, phase_is_running, same_module}
-use Rattle.stack_rules.specs.Net.{Net, binding_numbers, kind_of_binding, lists, seen}
+use Rattle.stack_rules.specs.Tests.{is_retain, is_virtual, phase_is_halted, phase_is_paused, phase_is_running, same_module}
+use Rattle.stack_rules.specs.Net.{Net, after_rows, binding_numbers, kind_of_binding, lists, seen}
 use Rattle.stack_rules.specs.Places.{agenda_first, has_clone, is_away, is_clone_of, is_crossed, is_kept_by, is_passed, kept_lists, ready_lists, waits}
 use Rattle.stack_rules.specs.Sends.{first_of, transmitted}
 use Rattle.stack_rules.specs.Targets.{turned_back}
@@ -34,18 +35,21 @@ use Rattle.stack_rules.specs.Pumps.{pump_of, pump_moves, pump_outcome, request_p
 use Rattle.stack_rules.specs.Drains.{returned_by, returns_all, passed_by, passes_all, empties, empties_ring, first_rows, drain_rows, drained, drain_outcome}
 use Rattle.stack_rules.specs.Outcome.{Outcome}
 use Rattle.stack_rules.specs.Sound.{outcome, Next, Sound}
+use Rattle.stack_rules.specs.Work.{work}
 use Rattle.rule_basics.specs.Live.{Each}
 use Rattle.home_laws.specs.Standing.{IsYounger}
 use Rattle.home_laws.proofs.Known.{by_test}
 use Rattle.home_laws.proofs.Standing.{lists_stand}
 use Rattle.place_laws.specs.Kept.{Stands, IsPlaced, IsInPlace}
 use Rattle.work_laws.specs.InPlace.{EachInPlace}
-use Rattle.work_laws.proofs.Drains.{Each-both}
+use Rattle.work_laws.proofs.Drains.{Each-both, drain_lowers, loops_running}
 use Rattle.drain_laws.specs.Resting.{MayKeep, Rests, IsResting}
-use Rattle.drain_laws.specs.Drains.{NoneCrossed, IdleIsEmpty}
+use Rattle.drain_laws.specs.Drains.{NoneCrossed, IdleIsEmpty, IdleWhereDone}
 use Rattle.drain_laws.proofs.Reached.{IsReached}
-use Rattle.drain_laws.proofs.Bounded.{is_still, still_runs, in_place}
+use Rattle.drain_laws.proofs.Bounded.{MovesOrIdles, drain_moves, is_still, still_runs, in_place}
 use Rattle.drain_laws.proofs.Rests.{lists_rest}
+use Rattle.drain_laws.proofs.Served.{requests_served}
+use Rattle.drain_laws.proofs.Done.{no_things, no_requests, nothing_left}
 
 -- the modules that a drain empties while the stack doesn't run
 abbrev Gives : Net → ModuleId → Type 0
@@ -264,12 +268,36 @@ idle_empty net p h rests young free idle none = by (youngest (IsStuck net) (list
     by (inr t) = absurd (stuck net t.0 t.1 (no_clones t.0.list.0 (lists net.things) t.2 young))
 
 -- the reply of a drain
-drain_reply : (net : Net) (turn : Turn) (n : Next net turn) → turn.event ≡ event.Drain → turn.reply ≡ reply.Idle → (drain_outcome net n.choice.keeps).reply ≡ reply.Idle
-drain_reply net turn n e i = sym (ap (λ (e : Event). (outcome net e n.choice).reply) e) ∙ sym n.reply ∙ i
+pub drain_reply : (net : Net) (turn : Turn) (n : Next net turn) → turn.event ≡ event.Drain → turn.reply ≡ (drain_outcome net n.choice.keeps).reply
+drain_reply net turn n e = n.reply ∙ ap (λ (e : Event). (outcome net e n.choice).reply) e
+
+either_none : (a b : Bool) → (a || b) ≡ false → (a ≡ false) × (b ≡ false)
+either_none true b e = cc
+either_none false b e = (refl, e)
 
 pub idle_is_empty : EachInPlace → IdleIsEmpty
 idle_is_empty each head turns turn s n some p free e i =
     let net : Net = seen head turns in
     let still : is_still net.phase ≡ true = ap is_still p in
-    let idle = idle_drain net n.choice.keeps (drain_reply net turn n e i) in
-    idle_empty net (still_runs net.phase still) (in_place each head net some (record { turns = turns; sound = s; is = refl }) still) (lists_rest head turns s) (lists_stand head turns s).younger free idle.0 idle.1
+    let place : IsInPlace net = in_place each head net some (record { turns = turns; sound = s; is = refl }) still in
+    let idle = idle_drain net n.choice.keeps (sym (drain_reply net turn n e) ∙ i) in
+    let away = either_none (is_some (agenda_first net)) (is_some (next_giving net)) idle.0 in
+    let gone : lists net.things ≡ [] = idle_empty net (still_runs net.phase still) place (lists_rest head turns s) (lists_stand head turns s).younger free idle.0 idle.1 in
+    let none : net.things ≡ [] = no_things net.things away.0 gone in
+    (none, no_requests net (ap phase_is_paused p) (ap phase_is_halted p) none away.1 (requests_served head turns s) place.apart place.asked)
+
+idle_work : EachInPlace → (head : StackHead) (turns : List Turn) (turn : Turn) → Sound head turns → (n : Next (seen head turns) turn) → 1 ≤ length head.bindings → (seen head turns).phase ≡ phase.Pausing → turn.event ≡ event.Drain → work (seen head turns) ≡ 0 → turn.reply ≡ reply.Idle
+idle_work each head turns turn s n some p e z = by (drain_moves (seen head turns) n.choice.keeps)
+  where
+    by : MovesOrIdles (drain_outcome (seen head turns) n.choice.keeps) → turn.reply ≡ reply.Idle
+    by (inr i) = drain_reply (seen head turns) turn n e ∙ i.0
+    by (inl m) =
+        let net : Net = seen head turns in
+        let still : is_still net.phase ≡ true = ap is_still p in
+        let place : IsInPlace net = in_place each head net some (record { turns = turns; sound = s; is = refl }) still in
+        let less : work (after_rows net (drain_outcome net n.choice.keeps).rows) + 1 ≤ work net = drain_lowers net n.choice.keeps place (inr (loops_running net (still_runs net.phase still))) m in
+        absurd (omega (arith, less, z))
+
+pub idle_where_done : EachInPlace → IdleWhereDone
+idle_where_done each head turns turn s n some p free e =
+    (λ i. let gone = idle_is_empty each head turns turn s n some p free e i in nothing_left (seen head turns) gone.0 gone.1, λ z. idle_work each head turns turn s n some p e z)

@@ -4,7 +4,8 @@ pub mod Resting
 pub mod Rested
 pub mod Lent
 pub mod Rests
-pub mod Idle
-pub mod Pausing
 pub mod Serving
 pub mod Served
+pub mod Done
+pub mod Idle
+pub mod Pausing

@@ -175,10 +175,11 @@ home_rest base next loose closed l owner status found c opens h =
     let ls : List LiveList = lists next.things in
     let P : LiveList → Type 0 = Fine base closed (has_clone (after next r)) in
     let old : Each P (others l.list.0 ls) = others_each (Fine base loose (has_clone next)) P l.list.0 (λ k t f. one k t f) ls h.each in
+    let left : lists (after next r).things ≡ others l.list.0 ls = lists-without l.list.0 next.things in
     record {
       numbered = numbered_after next r tt h.numbered;
-      each = subst (Each P) (sym (lists-without l.list.0 next.things)) old;
-      free = λ f. subst (Each IsFree) (sym (lists-without l.list.0 next.things)) (Each-others IsFree l.list.0 ls (h.free f));
+      each = subst (Each P) (sym left) old;
+      free = λ f. subst (Each IsFree) (sym left) (Each-others IsFree l.list.0 ls (h.free f));
     }
   where
     still : (n : ℕ) → is_clone_of n l.origin ≡ false → has_clone next n ≡ true → has_clone (after next (row.Home l.list owner status)) n ≡ true

@@ -1,6 +1,6 @@
 -- What is promised of a pause and its drains.
-use Rattle.std.specs.Prelude.{◌≡◌, ℕ, ◌+◌, ◌*◌, ◌&&◌, ◌≤◌, Bool, true, false, List, [], ◌∷◌, ◌++◌, length, count_by}
-use Rattle.std.specs.List.{All}
+use Rattle.std.specs.Prelude.{◌≡◌, ◌↔◌, ℕ, ◌+◌, ◌*◌, ◌&&◌, ◌<◌, ◌≤◌, Bool, true, false, List, [], ◌∷◌, ◌++◌, length, count_by}
+use Rattle.std.specs.List.{All, list_any}
 use Rattle.ndis_base.specs.declared.Phase.TheVariants.{Pausing}
 use Rattle.journal_types.specs.declared.Event.{Event}
 use Rattle.journal_types.specs.declared.Event.TheVariants as event
@@ -8,12 +8,17 @@ use Rattle.journal_types.specs.declared.Reply.{Reply}
 use Rattle.journal_types.specs.declared.Reply.TheVariants as reply
 use Rattle.journal_types.specs.declared.StackHead.{StackHead}
 use Rattle.journal_types.specs.declared.Turn.{Turn}
-use Rattle.stack_rules.specs.Net.{Net, lists, seen}
+use Rattle.stack_rules.specs.Net.{Net, after_turn, lists, seen}
 use Rattle.stack_rules.specs.Places.{is_crossed}
 use Rattle.stack_rules.specs.Sound.{Next, Sound}
 use Rattle.stack_rules.specs.Work.{work}
 use Rattle.rule_basics.specs.Live.{Each}
 use Rattle.work_laws.specs.Bounds.{is_drain}
+
+-- A pause begins where a BeginPause is accepted.
+abbrev pub PauseBegins : Type 0
+PauseBegins =
+    (net : Net) (turn : Turn) → Next net turn → turn.event ≡ event.BeginPause → turn.reply ≡ reply.Ok → (after_turn net turn).phase ≡ Pausing
 
 -- the events by which a stack that pauses becomes empty
 abbrev pub is_draining : Event → Bool
@@ -36,19 +41,22 @@ DrainsAreBounded =
     (head : StackHead) (turns more : List Turn) → Sound head (turns ++ more) → 1 ≤ length head.bindings → (seen head turns).phase ≡ Pausing →
     All (λ turn. is_draining turn.event ≡ true) more → count_by drains_some more ≤ work (seen head turns)
 
-abbrev pub is_idle : Reply → Bool
-is_idle reply.Idle = true
-is_idle _ = false
-
 -- no live list has crossed to another stack
 abbrev pub NoneCrossed : Net → Type 0
 NoneCrossed net = Each (λ l. is_crossed l.crossed ≡ false) (lists net.things)
 
--- While a stack pauses, and no list of it has crossed, a drain is idle only where no list is live.
+-- While a stack pauses, and no list of it has crossed, a drain is idle only where nothing is left: no list is
+-- live, no status or answer is on its way, and no request waits.
 abbrev pub IdleIsEmpty : Type 0
 IdleIsEmpty =
     (head : StackHead) (turns : List Turn) (turn : Turn) → Sound head turns → Next (seen head turns) turn → 1 ≤ length head.bindings → (seen head turns).phase ≡ Pausing → NoneCrossed (seen head turns) →
-    turn.event ≡ event.Drain → turn.reply ≡ reply.Idle → lists (seen head turns).things ≡ []
+    turn.event ≡ event.Drain → turn.reply ≡ reply.Idle → ((seen head turns).things ≡ []) × ((seen head turns).requests ≡ [])
+
+-- Then a drain is idle exactly where the work is done.
+abbrev pub IdleWhereDone : Type 0
+IdleWhereDone =
+    (head : StackHead) (turns : List Turn) (turn : Turn) → Sound head turns → Next (seen head turns) turn → 1 ≤ length head.bindings → (seen head turns).phase ≡ Pausing → NoneCrossed (seen head turns) →
+    turn.event ≡ event.Drain → (turn.reply ≡ reply.Idle) ↔ (work (seen head turns) ≡ 0)
 
 abbrev pub is_waiting : Reply → Bool
 is_waiting (reply.Waiting n) = true
@@ -65,9 +73,30 @@ PausesAndDrains due [] = Unit {0}
 PausesAndDrains true (turn ∷ more) = (turn.event ≡ event.Drain) × PausesAndDrains false more
 PausesAndDrains false (turn ∷ more) = (turn.event ≡ event.PauseNext) × (ends_pause turn.reply ≡ true → more ≡ []) × PausesAndDrains (is_waiting turn.reply) more
 
--- While a stack pauses, and no list of it has crossed, such a pause takes at most two turns for each unit of the work
--- and one for each position.
+-- the turn goes on with the pause
+abbrev pub goes_on : Reply → Bool
+goes_on reply.Next = true
+goes_on (reply.Waiting n) = true
+goes_on reply.Moved = true
+goes_on reply.Paused = true
+goes_on _ = false
+
+abbrev pub is_ended : List Turn → Bool
+is_ended more = list_any (λ turn. ends_pause turn.reply) more
+
+-- two turns for each unit of the work, and one for each position
+abbrev pub time : Net → ℕ
+time net = 2 * work net + (length net.modules.order + 2)
+
+-- In that many turns the stack is Paused: the pause has no more of them, and fewer before its end; none is refused,
+-- and no drain is idle.
+pub record EndsInTime (net : Net) (more : List Turn) : Type 0 where
+  pub most : length more ≤ time net
+  pub before : is_ended more ≡ false → length more < time net
+  pub on : All (λ turn. goes_on turn.reply ≡ true) more
+
+-- While a stack pauses, and no list of it has crossed, such a pause ends in time.
 abbrev pub PausesInTime : Type 0
 PausesInTime =
     (head : StackHead) (turns more : List Turn) → Sound head (turns ++ more) → 1 ≤ length head.bindings → (seen head turns).phase ≡ Pausing → NoneCrossed (seen head turns) → PausesAndDrains false more →
-    length more ≤ 2 * work (seen head turns) + (length (seen head turns).modules.order + 2)
+    EndsInTime (seen head turns) more
