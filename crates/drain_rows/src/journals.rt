@@ -6,7 +6,9 @@ ghost use Rattle.drain_rows.specs.Laws.{MeetsLaws};
 use crate::laws::shows_laws;
 use journal_types::{BindingSetups, Event, Frames, PortSetup, Setup, StackHead, UpperLinks};
 use law_rows::ask;
-use ndis_base::{FilterKind, Frame, Handlers, LaneNo, MiniportKind, OutOfMemory, ProtocolKind, Who};
+use ndis_base::{
+    FilterKind, Frame, Handlers, LaneNo, MiniportKind, OutOfMemory, ProtocolKind, Who,
+};
 use plain_walk::WalkedStack;
 use program_types::Program;
 use std::alloc::Global;

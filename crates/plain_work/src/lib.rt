@@ -169,7 +169,9 @@ fn request_work(net: &PlainNet, at: RequestAt) -> Result<u64, OutOfMemory>
 {
     match at {
         RequestAt::Entry => Ok(product_of(2, bottom(net))?.saturating_sub(1)),
-        RequestAt::Waiting(m) => Ok(product_of(2, bottom(net))?.saturating_sub(position_of(net, m))),
+        RequestAt::Waiting(m) => Ok(product_of(2, bottom(net))?.saturating_sub(position_of(
+            net, m,
+        ))),
         RequestAt::Given(_) => Ok(0),
     }
 }
