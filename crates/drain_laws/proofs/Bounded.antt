@@ -1,5 +1,5 @@
 -- While a stack pauses its drains lower the work and nothing else adds to it.
-use Rattle.std.proofs.Common.{◌≡◌, ℕ, ◌+◌, ◌&&◌, ◌||◌, ◌≤◌, ◌==◌, Bool, true, false, List, [], ◌∷◌, ◌++◌, Option, Some, None, length, nat_lt, slice_index_or, count_by, refl, arith, ap, sym, subst, ◌∙◌, ◌⊎◌, inl, inr}
+use Rattle.std.proofs.Common.{◌≡◌, ℕ, ◌+◌, ◌&&◌, ◌≤◌, ◌==◌, Bool, true, false, List, [], ◌∷◌, ◌++◌, Option, Some, None, length, nat_lt, slice_index_or, count_by, refl, arith, ap, sym, subst, ◌∙◌, ◌⊎◌, inl, inr}
 use Rattle.std.specs.List.{All}
 use Rattle.std.proofs.lemmas.List.Elements.{All-head, All-tail}
 use Rattle.ndis_base.specs.declared.ModuleId.{ModuleId}
@@ -20,16 +20,16 @@ use Rattle.stack_rules.specs.Tests.{phase_is_running, phase_is_pausing}
 use Rattle.stack_rules.specs.Net.{Net, after, after_rows, after_turn, told, seen}
 use Rattle.stack_rules.specs.Places.{outstanding, agenda_first}
 use Rattle.stack_rules.specs.Outcome.{Outcome}
-use Rattle.stack_rules.specs.Pauses.{floors, state_row, state_rows, first_unpaused, paused_rows, pause_at, pause_outcome}
+use Rattle.stack_rules.specs.Pauses.{floors, state_row, state_rows, first_unpaused, paused_rows, pause_outcome}
 use Rattle.stack_rules.specs.Pumps.{request_pump, pump_of, pump_moves, pump_outcome}
 use Rattle.stack_rules.specs.Requests.{Giving, next_giving}
 use Rattle.stack_rules.specs.Drains.{drain_rows, drained, drain_outcome}
-use Rattle.stack_rules.specs.Sound.{outcome, Next, Sound, SoundFrom}
+use Rattle.stack_rules.specs.Sound.{outcome, Next, SoundFrom}
 use Rattle.stack_rules.specs.Work.{work}
 use Rattle.rule_basics.proofs.Counts.{one_if, count_by-cons}
 use Rattle.home_laws.proofs.Known.{by_test}
+use Rattle.home_laws.proofs.Standing.{sound_front}
 use Rattle.state_laws.proofs.Rows.{after_rows-append}
-use Rattle.state_laws.proofs.Quiet.{is_plain}
 use Rattle.state_laws.proofs.Events.{state_after, plain_same, turn_is}
 use Rattle.place_laws.specs.Kept.{IsInPlace}
 use Rattle.work_laws.specs.Bounds.{is_drain}
@@ -38,7 +38,7 @@ use Rattle.work_laws.proofs.Adds.{Adds, pause_adds}
 use Rattle.work_laws.proofs.Filters.{Lowers}
 use Rattle.work_laws.proofs.Drains.{drain_lowers, loops_running}
 use Rattle.drain_laws.specs.Drains.{is_draining, is_moved, drains_some, DrainsAreBounded}
-use Rattle.drain_laws.proofs.Reached.{IsReached, reached_front, reached_next, sound_rest, of_reached}
+use Rattle.drain_laws.proofs.Reached.{IsReached, reached_front, reached_next, some_binding, sound_rest}
 
 -- a drain moves something, or is idle and leaves all as it is
 abbrev pub MovesOrIdles : Outcome → Type 0
@@ -153,5 +153,5 @@ bounded each head some net (turn ∷ more) r s n d =
     omega (arith, first, rest, whole)
 
 pub drains_bounded : EachInPlace → DrainsAreBounded
-drains_bounded each head turns more s some p d =
-    bounded each head some (seen head turns) more (reached_front head turns more s) (ap is_still p) (sound_rest head turns more s) d
+drains_bounded each head turns more s p d =
+    bounded each head (some_binding head turns (sound_front head turns more s) p) (seen head turns) more (reached_front head turns more s) (ap is_still p) (sound_rest head turns more s) d

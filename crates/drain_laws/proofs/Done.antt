@@ -1,22 +1,19 @@
 -- Where a pump would move nothing, and no list is live, no request is left either, and the work is done.
-use Rattle.std.proofs.Common.{◌≡◌, ℕ, ◌+◌, ◌≤◌, ◌<◌, ◌==◌, ◌&&◌, ◌||◌, not, Bool, true, false, cond, List, [], ◌∷◌, ◌++◌, Option, Some, None, refl, arith, ap, sym, subst, ◌∙◌, ◌⊎◌, inl, inr, find, filter, is_some, nat_le, reverse, sum_by}
+use Rattle.std.proofs.Common.{◌≡◌, ℕ, ◌≤◌, ◌<◌, ◌==◌, ◌&&◌, ◌||◌, not, Bool, true, false, cond, List, [], ◌∷◌, Option, Some, None, refl, arith, ap, sym, subst, ◌∙◌, ◌⊎◌, inl, inr, find, filter, is_some, nat_le, reverse, sum_by}
 use Rattle.std.specs.List.{list_any}
 use Rattle.std.proofs.lemmas.Bool.Decides.{nat_tests}
 use Rattle.std.proofs.lemmas.List.Sorted.{list_any-IsPermutation, IsPermutation-reverse}
 use Rattle.ndis_base.specs.declared.ModuleId.{ModuleId}
 use Rattle.ndis_base.specs.declared.ModuleId.TheVariants.{Miniport, Filter, Binding}
 use Rattle.ndis_base.specs.declared.OidNo.{OidNo}
-use Rattle.ndis_base.specs.declared.Phase.TheVariants as phase
-use Rattle.stack_rules.specs.declared.LiveList.{LiveList}
 use Rattle.stack_rules.specs.declared.Request.{Request}
 use Rattle.stack_rules.specs.declared.RequestAt.{RequestAt}
 use Rattle.stack_rules.specs.declared.RequestAt.TheVariants as at
 use Rattle.stack_rules.specs.declared.Thing.{Thing}
 use Rattle.stack_rules.specs.declared.Thing.TheVariants as thing
-use Rattle.stack_rules.specs.Tests.{phase_is_halted, phase_is_paused, same_module}
+use Rattle.stack_rules.specs.Tests.{phase_is_halted, phase_is_paused}
 use Rattle.stack_rules.specs.Net.{Net, Modules, first_oid, has_oid, lists, request_of}
-use Rattle.stack_rules.specs.Places.{agenda_first, is_away, position}
-use Rattle.stack_rules.specs.Pumps.{pump_moves}
+use Rattle.stack_rules.specs.Places.{is_away, position}
 use Rattle.stack_rules.specs.Requests.{Giving, entry_giving, filter_ids, first_waiting, giving_to, has_waiting, is_at_entry, is_busy, is_given_to, lowest_giving, next_giving, oid_modules, or_else, waits_at}
 use Rattle.stack_rules.specs.Rewires.{is_in}
 use Rattle.stack_rules.specs.Work.{thing_work, request_work, work}
@@ -24,6 +21,7 @@ use Rattle.place_laws.specs.Kept.{place_position, IsAsked, EachRequest, EachApar
 use Rattle.request_laws.proofs.Finds.{EachRequest-both, EachRequest-implies, each_found}
 use Rattle.request_laws.proofs.Orders.{same_is}
 use Rattle.drain_laws.specs.Serving.{Takes, is_clone, has_clone_of, has_answer, is_served, IsServed, AreServed}
+use Rattle.drain_laws.proofs.Tests.{not_both, or_first, or_left, or_right, same_self}
 
 -- nothing is away and no list is live
 pub no_things : (ts : List Thing) → is_some (find is_away ts) ≡ false → lists ts ≡ [] → ts ≡ []
@@ -48,17 +46,9 @@ find_any p test (q ∷ rs) r f t = by (p q) f (λ g. find_any p test rs r g t)
     same : (x y : Request) → Some x ≡ Some y → x ≡ y
     same x y e = cc
 
-    left : (a b : Bool) → a ≡ true → (a || b) ≡ true
-    left true b e = refl
-    left false b e = cc
-
-    right : (a b : Bool) → b ≡ true → (a || b) ≡ true
-    right true b e = refl
-    right false b e = e
-
     by : (b : Bool) → cond b (Some q) (find p rs) ≡ Some r → (find p rs ≡ Some r → list_any test rs ≡ true) → (test q || list_any test rs) ≡ true
-    by true g rest = left (test q) (list_any test rs) (ap test (same q r g) ∙ t)
-    by false g rest = right (test q) (list_any test rs) (rest g)
+    by true g rest = or_left (test q) (list_any test rs) (ap test (same q r g) ∙ t)
+    by false g rest = or_right (test q) (list_any test rs) (rest g)
 
 any_found : (test : Request → Bool) (rs : List Request) → list_any test rs ≡ true → is_some (find test rs) ≡ true
 any_found test [] t = cc
@@ -84,13 +74,10 @@ none_given : (rs : List Request) (ms : List ModuleId) → is_some (lowest_giving
 none_given rs [] e = tt
 none_given rs (m ∷ ms) e = by (has_waiting rs m) (is_busy rs m) refl refl e (none_given rs ms)
   where
-    both : (b : Bool) → b ≡ true → b ≡ false → ⊥
-    both b t f = cc
-
     by : (b c : Bool) → has_waiting rs m ≡ b → is_busy rs m ≡ c → is_some (cond (b && not c) (giving_to m (first_waiting rs m)) (lowest_giving rs ms)) ≡ false → (is_some (lowest_giving rs ms) ≡ false → AreIdle rs ms) → IsIdle rs m × AreIdle rs ms
     by true true t u e rest = (λ w. u, rest e)
-    by true false t u e rest = absurd (both (is_some (giving_to m (first_waiting rs m))) (is_some_giving m (first_waiting rs m) (any_found (λ r. waits_at m r.at) rs t)) e)
-    by false c t u e rest = (λ w. absurd (both (has_waiting rs m) w t), rest e)
+    by true false t u e rest = absurd (not_both (is_some (giving_to m (first_waiting rs m))) (is_some_giving m (first_waiting rs m) (any_found (λ r. waits_at m r.at) rs t)) e)
+    by false c t u e rest = (λ w. absurd (not_both (has_waiting rs m) w t), rest e)
 
 idle_in : (rs : List Request) (f : ℕ) (fs : List ℕ) → AreIdle rs (filter_ids fs) → is_in f fs ≡ true → IsIdle rs (Filter f)
 idle_in rs f [] h i = cc
@@ -104,21 +91,10 @@ still_in : (f : ℕ) (test : ℕ → Bool) (fs : List ℕ) → test f ≡ true �
 still_in f test [] t i = cc
 still_in f test (g ∷ fs) t i = by (g == f) (test g) refl refl i (still_in f test fs t)
   where
-    right : (a b : Bool) → b ≡ true → (a || b) ≡ true
-    right true b e = refl
-    right false b e = e
-
-    left : (a b : Bool) → a ≡ true → (a || b) ≡ true
-    left true b e = refl
-    left false b e = cc
-
     by : (b c : Bool) → (g == f) ≡ b → test g ≡ c → (b || is_in f fs) ≡ true → (is_in f fs ≡ true → is_in f (filter test fs) ≡ true) → is_in f (cond c (g ∷ filter test fs) (filter test fs)) ≡ true
-    by true true e u i rest = left (g == f) (is_in f (filter test fs)) e
-    by true false e u i rest = let same : g ≡ f = grind (arith, nat_tests) in absurd (clash (test f) t (ap test (sym same) ∙ u))
-      where
-        clash : (b : Bool) → b ≡ true → b ≡ false → ⊥
-        clash b t f = cc
-    by false true e u i rest = right (g == f) (is_in f (filter test fs)) (rest i)
+    by true true e u i rest = or_left (g == f) (is_in f (filter test fs)) e
+    by true false e u i rest = let same : g ≡ f = grind (arith, nat_tests) in absurd (not_both (test f) t (ap test (sym same) ∙ u))
+    by false true e u i rest = or_right (g == f) (is_in f (filter test fs)) (rest i)
     by false false e u i rest = rest i
 
 in_reverse : (f : ℕ) (fs : List ℕ) → is_in f (reverse fs) ≡ is_in f fs
@@ -167,20 +143,11 @@ given_is m at.Entry e = cc
 given_is m (at.Waiting k) e = cc
 given_is m (at.Given k) e = ap (λ i. at.Given i) (same_is k m e)
 
-same_self : (m : ModuleId) → same_module m m ≡ true
-same_self Miniport = refl
-same_self (Filter f) = grind (arith, nat_tests)
-same_self (Binding b) = grind (arith, nat_tests)
-
 -- a given request has a clone below it
 module _ (net : Net) (deep : ℕ) (all : EachRequest (IsKnown net deep) net.requests) (none : net.things ≡ []) where
   below_given : (q : Request) → IsKnown net deep q → (m : ModuleId) → q.at ≡ at.Given m → position net.modules.order m < deep
   below_given q k m e = by m e (subst (IsServed net.modules (is_served net) q.request.0) e k.served)
     where
-      or_none : (a b : Bool) → b ≡ false → (a || b) ≡ true → a ≡ true
-      or_none true b f h = refl
-      or_none false b f h = cc
-
       one : (x y : Request) → Some x ≡ Some y → x ≡ y
       one x y e = cc
 
@@ -203,7 +170,7 @@ module _ (net : Net) (deep : ℕ) (all : EachRequest (IsKnown net deep) net.requ
       by (Binding b) e s = absurd s
       by (Filter f) e s =
           clone f e (any_request (IsKnown net deep) (λ r. is_clone q.request.0 r.parent) net.requests all
-          (or_none (has_clone_of q.request.0 net.requests) (has_answer q.request.0 net.things) (ap (has_answer q.request.0) none) s))
+          (or_first (has_clone_of q.request.0 net.requests) (has_answer q.request.0 net.things) (ap (has_answer q.request.0) none) s))
 
   -- so the deepest is at the entry
   deepest_waits : AreIdle net.requests (oid_modules net.modules) → (r : Request) → IsKnown net deep r → place_position net r.at ≡ deep → r.at ≡ at.Entry
@@ -246,9 +213,6 @@ module _ (net : Net) (deep : ℕ) (all : EachRequest (IsKnown net deep) net.requ
 entry_none : (net : Net) → phase_is_paused net.phase ≡ false → phase_is_halted net.phase ≡ false → EachRequest (λ r. r.at ≡ at.Entry) net.requests → is_some (entry_giving net) ≡ false → net.requests ≡ []
 entry_none net p q h e = by net.requests h (busy_none net.requests h) (waiting_none net.requests h) e
   where
-
-
-
     busy_none : (rs : List Request) → EachRequest (λ r. r.at ≡ at.Entry) rs → is_busy rs (first_oid net.modules net.modules.order) ≡ false
     busy_none [] h = refl
     busy_none (r ∷ rs) h = ap (λ a. is_given_to (first_oid net.modules net.modules.order) a || is_busy rs (first_oid net.modules net.modules.order)) h.0 ∙ busy_none rs h.1
@@ -274,10 +238,7 @@ entry_none net p q h e = by net.requests h (busy_none net.requests h) (waiting_n
         let none : is_some (giving_to (first_oid net.modules net.modules.order) (find (λ q. is_at_entry q.at) (r ∷ rs))) ≡ false =
         chosen (phase_is_paused net.phase) (phase_is_halted net.phase) (is_busy (r ∷ rs) (first_oid net.modules net.modules.order)) (has_waiting (r ∷ rs) (first_oid net.modules net.modules.order)) _ p q b w e in
         let some : is_some (giving_to (first_oid net.modules net.modules.order) (find (λ q. is_at_entry q.at) (r ∷ rs))) ≡ true = ap (λ o. is_some (giving_to (first_oid net.modules net.modules.order) o)) (first r rs h.0) in
-        absurd (both (is_some (giving_to (first_oid net.modules net.modules.order) (find (λ q. is_at_entry q.at) (r ∷ rs)))) some none)
-      where
-        both : (b : Bool) → b ≡ true → b ≡ false → ⊥
-        both b t f = cc
+        absurd (not_both (is_some (giving_to (first_oid net.modules net.modules.order) (find (λ q. is_at_entry q.at) (r ∷ rs)))) some none)
 
 -- what a pump would give
 neither_giving : (a b : Option Giving) → is_some (or_else a b) ≡ false → (is_some a ≡ false) × (is_some b ≡ false)

@@ -1,10 +1,9 @@
 -- Where a drain is idle while the stack doesn't run, and no list has crossed, no list is live: the youngest list
 -- would be ready, and its keeper would give it away.
-use Rattle.std.proofs.Common.{◌≡◌, ℕ, ◌+◌, ◌≤◌, ◌<◌, ◌==◌, ◌&&◌, ◌||◌, not, Bool, true, false, cond, List, [], ◌∷◌, ◌++◌, Option, Some, None, refl, arith, ap, sym, subst, ◌∙◌, ◌⊎◌, inl, inr, find, filter, map, is_some, length, nat_le}
+use Rattle.std.proofs.Common.{◌≡◌, ℕ, ◌+◌, ◌≤◌, ◌==◌, ◌||◌, not, Bool, true, false, cond, List, [], ◌∷◌, ◌++◌, Option, Some, None, refl, arith, ap, sym, ◌∙◌, ◌⊎◌, inl, inr, find, filter, map, is_some, length, nat_le}
 use Rattle.std.specs.List.{list_any}
 use Rattle.std.proofs.lemmas.Bool.Decides.{nat_tests}
-use Rattle.ndis_base.specs.declared.ListNo.{ListNo}
-use Rattle.ndis_base.specs.declared.ListStatus.TheVariants.{Success, Paused}
+use Rattle.ndis_base.specs.declared.ListStatus.TheVariants.{Paused}
 use Rattle.ndis_base.specs.declared.ModuleId.{ModuleId}
 use Rattle.ndis_base.specs.declared.ModuleId.TheVariants.{Miniport, Filter, Binding}
 use Rattle.ndis_base.specs.declared.Origin.{Origin}
@@ -17,15 +16,14 @@ use Rattle.journal_types.specs.declared.Reply.TheVariants as reply
 use Rattle.journal_types.specs.declared.Row.{Row}
 use Rattle.journal_types.specs.declared.StackHead.{StackHead}
 use Rattle.journal_types.specs.declared.Turn.{Turn}
-use Rattle.stack_rules.specs.declared.Choice.{Choice}
 use Rattle.stack_rules.specs.declared.LiveList.{LiveList}
 use Rattle.stack_rules.specs.declared.Stand.{Stand}
 use Rattle.stack_rules.specs.declared.Stand.TheVariants as stand
 use Rattle.stack_rules.specs.declared.Thing.{Thing}
 use Rattle.stack_rules.specs.declared.Thing.TheVariants as thing
-use Rattle.stack_rules.specs.Tests.{is_retain, is_virtual, phase_is_halted, phase_is_paused, phase_is_running, same_module}
+use Rattle.stack_rules.specs.Tests.{is_retain, is_virtual, phase_is_halted, phase_is_paused, phase_is_running}
 use Rattle.stack_rules.specs.Net.{Net, after_rows, binding_numbers, kind_of_binding, lists, seen}
-use Rattle.stack_rules.specs.Places.{agenda_first, has_clone, is_away, is_clone_of, is_crossed, is_kept_by, is_passed, kept_lists, ready_lists, waits}
+use Rattle.stack_rules.specs.Places.{agenda_first, has_clone, is_away, is_clone_of, is_crossed, is_kept_by, is_passed, ready_lists, waits}
 use Rattle.stack_rules.specs.Sends.{first_of, transmitted}
 use Rattle.stack_rules.specs.Targets.{turned_back}
 use Rattle.stack_rules.specs.Cancels.{holds_lists}
@@ -33,7 +31,6 @@ use Rattle.stack_rules.specs.Rewires.{is_in}
 use Rattle.stack_rules.specs.Requests.{Giving, next_giving}
 use Rattle.stack_rules.specs.Pumps.{pump_of, pump_moves, pump_outcome, request_pump}
 use Rattle.stack_rules.specs.Drains.{returned_by, returns_all, passed_by, passes_all, empties, empties_ring, first_rows, drain_rows, drained, drain_outcome}
-use Rattle.stack_rules.specs.Outcome.{Outcome}
 use Rattle.stack_rules.specs.Sound.{outcome, Next, Sound}
 use Rattle.stack_rules.specs.Work.{work}
 use Rattle.rule_basics.specs.Live.{Each}
@@ -43,13 +40,14 @@ use Rattle.home_laws.proofs.Standing.{lists_stand}
 use Rattle.place_laws.specs.Kept.{Stands, IsPlaced, IsInPlace}
 use Rattle.work_laws.specs.InPlace.{EachInPlace}
 use Rattle.work_laws.proofs.Drains.{Each-both, drain_lowers, loops_running}
-use Rattle.drain_laws.specs.Resting.{MayKeep, Rests, IsResting}
+use Rattle.drain_laws.specs.Resting.{Rests, IsResting}
 use Rattle.drain_laws.specs.Drains.{NoneCrossed, IdleIsEmpty, IdleWhereDone}
-use Rattle.drain_laws.proofs.Reached.{IsReached}
+use Rattle.drain_laws.proofs.Reached.{some_binding}
 use Rattle.drain_laws.proofs.Bounded.{MovesOrIdles, drain_moves, is_still, still_runs, in_place}
 use Rattle.drain_laws.proofs.Rests.{lists_rest}
 use Rattle.drain_laws.proofs.Served.{requests_served}
 use Rattle.drain_laws.proofs.Done.{no_things, no_requests, nothing_left}
+use Rattle.drain_laws.proofs.Tests.{none_or, not_both, or_none, same_self}
 
 -- the modules that a drain empties while the stack doesn't run
 abbrev Gives : Net → ModuleId → Type 0
@@ -96,11 +94,8 @@ empties_none : (net : Net) (ls : List LiveList) → phase_is_running net.phase �
 empties_none net [] p e = refl
 empties_none net (l ∷ ls) p e =
     by_test (λ rows. rows ≡ [] → (l ∷ ls) ≡ []) (is_virtual net.head.kind) (cond (phase_is_running net.phase) [] (turned_back net.modules l Miniport Paused)) (transmitted net l)
-    (λ _. by_test (λ rows. rows ≡ [] → (l ∷ ls) ≡ []) (phase_is_running net.phase) [] (turned_back net.modules l Miniport Paused) (λ t. absurd (both (phase_is_running net.phase) t p)) (λ _ f. cc))
+    (λ _. by_test (λ rows. rows ≡ [] → (l ∷ ls) ≡ []) (phase_is_running net.phase) [] (turned_back net.modules l Miniport Paused) (λ t. absurd (not_both (phase_is_running net.phase) t p)) (λ _ f. cc))
     (λ _ f. cc) e
-  where
-    both : (b : Bool) → b ≡ true → b ≡ false → ⊥
-    both b t f = cc
 
 -- where the rows of a drain are none, no such module keeps a ready list
 none_ready : (net : Net) → phase_is_running net.phase ≡ false → drain_rows net ≡ [] → (m : ModuleId) → Gives net m → ready_lists net m ≡ []
@@ -166,12 +161,8 @@ youngest P (x ∷ ls) h = inr (by (youngest P ls h.1))
 -- it has no clone
 no_clones : (n : ℕ) (ls : List LiveList) → Each (λ l. l.list.0 ≤ n) ls → Each (λ l. IsYounger l.list.0 l.origin) ls → list_any (λ l. is_clone_of n l.origin) ls ≡ false
 no_clones n [] h y = refl
-no_clones n (x ∷ ls) h y = neither (is_clone_of n x.origin) _ (not_of x.origin h.0 y.0) (no_clones n ls h.1 y.1)
+no_clones n (x ∷ ls) h y = none_or (is_clone_of n x.origin) _ (not_of x.origin h.0 y.0) (no_clones n ls h.1 y.1)
   where
-    neither : (a b : Bool) → a ≡ false → b ≡ false → (a || b) ≡ false
-    neither true b e f = cc
-    neither false b e f = f
-
     not_of : (by : Origin) → x.list.0 ≤ n → IsYounger x.list.0 by → is_clone_of n by ≡ false
     not_of origin.Root a y = refl
     not_of (origin.Copy o) a y = refl
@@ -198,30 +189,18 @@ record IsStuck (net : Net) (l : LiveList) : Type 0 where
   away : is_passed l.stand ≡ false
   waits : KeptWaits net l
 
-same_self : (m : ModuleId) → same_module m m ≡ true
-same_self Miniport = refl
-same_self (Filter f) = grind (arith, nat_tests)
-same_self (Binding b) = grind (arith, nat_tests)
-
 stuck : (net : Net) (l : LiveList) → IsStuck net l → has_clone net l.list.0 ≡ false → ⊥
 stuck net l h none = by l.stand refl h.rests h.placed h.away
   where
-    clash : (c w : Bool) → c ≡ false → w ≡ false → (c || w) ≡ true → ⊥
-    clash true w e f t = cc
-    clash false w e f t = cc
-
     kept : (m : ModuleId) → l.stand ≡ stand.Kept m → Gives net m → ⊥
-    kept m e g = clash (is_crossed l.crossed) (has_clone net l.list.0) h.free none (h.waits m g (ap (is_kept_by m) e ∙ same_self m))
-
-    both : (b : Bool) → b ≡ true → b ≡ false → ⊥
-    both b t f = cc
+    kept m e g = not_both (waits net l) (h.waits m g (ap (is_kept_by m) e ∙ same_self m)) (none_or (is_crossed l.crossed) (has_clone net l.list.0) h.free none)
 
     by : (s : Stand) → l.stand ≡ s → Rests net (has_clone net l.list.0) s → Stands net.modules l s → is_passed s ≡ false → ⊥
     by stand.Unplaced e r p a = r
     by (stand.Passed way to) e r p a = cc
     by (stand.Kept Miniport) e r p a = kept Miniport e tt
     by (stand.Kept (Filter f)) e (inl holds) p a = kept (Filter f) e (p, holds)
-    by (stand.Kept (Filter f)) e (inr cloned) p a = both (has_clone net l.list.0) cloned none
+    by (stand.Kept (Filter f)) e (inr cloned) p a = not_both (has_clone net l.list.0) cloned none
     by (stand.Kept (Binding b)) e r p a = kept (Binding b) e r
 
 -- an idle drain
@@ -246,10 +225,6 @@ idle_drain net keeps =
     clash : (r : Reply) → r ≡ reply.Moved → r ≡ reply.Idle → ⊥
     clash r a b = cc
 
-either_false : (a b : Bool) → (a || b) ≡ false → a ≡ false
-either_false true b e = cc
-either_false false b e = refl
-
 pub idle_empty : (net : Net) → phase_is_running net.phase ≡ false → IsInPlace net → Each (IsResting net) (lists net.things) → Each (λ l. IsYounger l.list.0 l.origin) (lists net.things) → NoneCrossed net → pump_moves net ≡ false → drain_rows net ≡ [] → lists net.things ≡ []
 idle_empty net p h rests young free idle none = by (youngest (IsStuck net) (lists net.things) all)
   where
@@ -260,7 +235,7 @@ idle_empty net p h rests young free idle none = by (youngest (IsStuck net) (list
         (Each-both (IsResting net) (IsPlaced net) (λ l. IsResting net l × IsPlaced net l) (λ l a b. (a, b)) (lists net.things) rests h.placed)
         (Each-both (λ l. is_crossed l.crossed ≡ false) (λ l. (is_passed l.stand ≡ false) × KeptWaits net l) (λ l. (is_crossed l.crossed ≡ false) × (is_passed l.stand ≡ false) × KeptWaits net l) (λ l a b. (a, b.0, b.1)) (lists net.things) free
         (Each-both (λ l. is_passed l.stand ≡ false) (KeptWaits net) (λ l. (is_passed l.stand ≡ false) × KeptWaits net l) (λ l a b. (a, b)) (lists net.things)
-        (none_away net.things (either_false (is_some (agenda_first net)) (is_some (next_giving net)) idle))
+        (none_away net.things (or_none (is_some (agenda_first net)) (is_some (next_giving net)) idle).0)
         (kept_wait net (lists net.things) (none_ready net p none))))
 
     by : (lists net.things ≡ []) ⊎ ((l : LiveList) × IsStuck net l × Each (λ k. k.list.0 ≤ l.list.0) (lists net.things)) → lists net.things ≡ []
@@ -271,17 +246,14 @@ idle_empty net p h rests young free idle none = by (youngest (IsStuck net) (list
 pub drain_reply : (net : Net) (turn : Turn) (n : Next net turn) → turn.event ≡ event.Drain → turn.reply ≡ (drain_outcome net n.choice.keeps).reply
 drain_reply net turn n e = n.reply ∙ ap (λ (e : Event). (outcome net e n.choice).reply) e
 
-either_none : (a b : Bool) → (a || b) ≡ false → (a ≡ false) × (b ≡ false)
-either_none true b e = cc
-either_none false b e = (refl, e)
-
 pub idle_is_empty : EachInPlace → IdleIsEmpty
-idle_is_empty each head turns turn s n some p free e i =
+idle_is_empty each head turns turn s n p free e i =
     let net : Net = seen head turns in
+    let some : 1 ≤ length head.bindings = some_binding head turns s p in
     let still : is_still net.phase ≡ true = ap is_still p in
     let place : IsInPlace net = in_place each head net some (record { turns = turns; sound = s; is = refl }) still in
     let idle = idle_drain net n.choice.keeps (sym (drain_reply net turn n e) ∙ i) in
-    let away = either_none (is_some (agenda_first net)) (is_some (next_giving net)) idle.0 in
+    let away = or_none (is_some (agenda_first net)) (is_some (next_giving net)) idle.0 in
     let gone : lists net.things ≡ [] = idle_empty net (still_runs net.phase still) place (lists_rest head turns s) (lists_stand head turns s).younger free idle.0 idle.1 in
     let none : net.things ≡ [] = no_things net.things away.0 gone in
     (none, no_requests net (ap phase_is_paused p) (ap phase_is_halted p) none away.1 (requests_served head turns s) place.apart place.asked)
@@ -299,5 +271,5 @@ idle_work each head turns turn s n some p e z = by (drain_moves (seen head turns
         absurd (omega (arith, less, z))
 
 pub idle_where_done : EachInPlace → IdleWhereDone
-idle_where_done each head turns turn s n some p free e =
-    (λ i. let gone = idle_is_empty each head turns turn s n some p free e i in nothing_left (seen head turns) gone.0 gone.1, λ z. idle_work each head turns turn s n some p e z)
+idle_where_done each head turns turn s n p free e =
+    (λ i. let gone = idle_is_empty each head turns turn s n p free e i in nothing_left (seen head turns) gone.0 gone.1, λ z. idle_work each head turns turn s n (some_binding head turns s p) p e z)

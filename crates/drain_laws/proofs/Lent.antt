@@ -1,5 +1,5 @@
 -- A list that is lent is home in the turn in which it is issued.
-use Rattle.std.proofs.Common.{◌≡◌, ℕ, ◌+◌, ◌<◌, ◌==◌, Bool, true, false, List, [], ◌∷◌, ◌++◌, Option, Some, None, refl, arith, ap, sym, subst, ◌∙◌, filter, reverse}
+use Rattle.std.proofs.Common.{◌≡◌, ℕ, ◌+◌, ◌<◌, ◌==◌, true, false, List, [], ◌∷◌, Option, Some, None, refl, arith, ap, sym, subst, ◌∙◌, filter, reverse}
 use Rattle.std.proofs.lemmas.Bool.Decides.{nat_tests}
 use Rattle.ndis_base.specs.declared.ListNo.{ListNo}
 use Rattle.ndis_base.specs.declared.ListStatus.{ListStatus}
@@ -23,8 +23,8 @@ use Rattle.stack_rules.specs.Net.{Net, after, after_rows, attached, lists, list_
 use Rattle.stack_rules.specs.Places.{position, is_full}
 use Rattle.stack_rules.specs.Targets.{has_receive, next_up, next_down}
 use Rattle.stack_rules.specs.Outcome.{list_no, config_no, max_frame}
-use Rattle.stack_rules.specs.Deliveries.{takers, delivered, echoed}
-use Rattle.stack_rules.specs.Receives.{lent_home, lent_back, copied, lent_changes, lent_handled, lent_at, lent_delivery, lent_up, lent_rows}
+use Rattle.stack_rules.specs.Deliveries.{takers, echoed}
+use Rattle.stack_rules.specs.Receives.{lent_home, lent_back, copied, lent_handled, lent_at, lent_delivery, lent_up, lent_rows}
 use Rattle.rule_basics.proofs.Lists.{lists-append}
 use Rattle.rule_basics.proofs.Numbered.{next_is_free}
 use Rattle.home_laws.proofs.Known.{by_test}
@@ -32,6 +32,7 @@ use Rattle.pause_laws.proofs.Lists.{found-last}
 use Rattle.work_laws.proofs.Hands.{Found, found_give, found_back, found_issue, found_pass}
 use Rattle.drain_laws.proofs.Resting.{Rest, none, only, closes_only, issue_rest, home_rest, plain_rest, issue_on}
 use Rattle.drain_laws.proofs.Rested.{Leaves, delivered_rest, echo_rest}
+use Rattle.drain_laws.proofs.Tests.{itself}
 
 -- the lent list is found, and is the only one that is loose
 record IsLent (net : Net) (list : ListNo) (next : Net) : Type 0 where
@@ -44,9 +45,6 @@ record IsLent (net : Net) (list : ListNo) (next : Net) : Type 0 where
 
 apart : (n m k : ℕ) → n ≡ m → m < k → (n == k) ≡ false
 apart n m k e l = grind (arith, nat_tests)
-
-itself : (n : ℕ) → (n == n) ≡ true
-itself n = grind (arith, nat_tests)
 
 module _ (net : Net) (list : ListNo) where
   given_lent : (next : Net) (m : ModuleId) → IsLent net list next → IsLent net list (after next (row.Give list m handler.ReceiveLent))

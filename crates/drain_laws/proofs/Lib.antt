@@ -1,3 +1,4 @@
+pub mod Tests
 pub mod Reached
 pub mod Bounded
 pub mod Resting

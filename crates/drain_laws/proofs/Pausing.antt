@@ -1,11 +1,9 @@
 -- A pause that drains while it has to wait comes to its end in a bounded number of turns.
-use Rattle.std.proofs.Common.{◌≡◌, ℕ, suc, ◌+◌, ◌-◌, ◌*◌, ◌≤◌, ◌<◌, ◌==◌, ◌&&◌, ◌||◌, Bool, true, false, cond, List, [], ◌∷◌, ◌++◌, refl, arith, ap, sym, subst, ◌∙◌, ◌⊎◌, inl, inr, get_or, length, nat_lt, count_by}
+use Rattle.std.proofs.Common.{◌≡◌, ℕ, suc, ◌+◌, ◌-◌, ◌*◌, ◌≤◌, ◌<◌, ◌==◌, ◌&&◌, Bool, true, false, cond, List, [], ◌∷◌, ◌++◌, refl, arith, ap, sym, subst, ◌∙◌, ◌⊎◌, inl, inr, get_or, length, nat_lt, count_by}
 use Rattle.std.specs.List.{All}
 use Rattle.std.proofs.lemmas.List.Elements.{All-cons, All-nil}
 use Rattle.std.proofs.lemmas.Bool.Decides.{nat_tests}
-use Rattle.ndis_base.specs.declared.ModuleState.{ModuleState}
 use Rattle.ndis_base.specs.declared.ModuleState.TheVariants as state
-use Rattle.ndis_base.specs.declared.Phase.{Phase}
 use Rattle.ndis_base.specs.declared.Phase.TheVariants as phase
 use Rattle.journal_types.specs.declared.Event.{Event}
 use Rattle.journal_types.specs.declared.Event.TheVariants as event
@@ -16,7 +14,6 @@ use Rattle.journal_types.specs.declared.Row.{Row}
 use Rattle.journal_types.specs.declared.Row.TheVariants as row
 use Rattle.journal_types.specs.declared.StackHead.{StackHead}
 use Rattle.journal_types.specs.declared.Turn.{Turn}
-use Rattle.stack_rules.specs.declared.Choice.{Choice}
 use Rattle.stack_rules.specs.declared.LiveList.{LiveList}
 use Rattle.stack_rules.specs.declared.Thing.{Thing}
 use Rattle.stack_rules.specs.Tests.{phase_is_pausing, phase_is_running}
@@ -32,7 +29,7 @@ use Rattle.rule_basics.proofs.Counts.{one_if}
 use Rattle.home_laws.proofs.Known.{by_test}
 use Rattle.home_laws.specs.Standing.{IsYounger}
 use Rattle.home_laws.proofs.Standing.{lists_stand, sound_front}
-use Rattle.state_laws.specs.Shape.{state_at, StatesAre, IsDistinct, IsWired, IsPausing, IsShaped}
+use Rattle.state_laws.specs.Shape.{state_at, IsDistinct, IsWired, IsPausing, IsShaped}
 use Rattle.state_laws.proofs.Rows.{IsSame, after_rows-append}
 use Rattle.state_laws.proofs.Changes.{IsTold, told_floor, told_put, told_then, wired_by, none_at}
 use Rattle.state_laws.proofs.Takes.{put, StatesAre-same}
@@ -45,12 +42,13 @@ use Rattle.work_laws.specs.InPlace.{EachInPlace}
 use Rattle.work_laws.proofs.Drains.{drain_lowers, loops_running}
 use Rattle.drain_laws.specs.Resting.{IsResting}
 use Rattle.drain_laws.specs.Drains.{is_draining, is_moved, drains_some, NoneCrossed, is_waiting, ends_pause, goes_on, is_ended, PauseBegins, PausesAndDrains, PausesInTime}
-use Rattle.drain_laws.proofs.Reached.{IsReached, reached_front, reached_next, sound_rest, of_reached}
+use Rattle.drain_laws.proofs.Reached.{IsReached, reached_front, reached_next, some_binding, sound_rest, of_reached}
 use Rattle.drain_laws.proofs.Bounded.{MovesOrIdles, drain_moves, is_still, still_runs, phase_states, turn_lessens, in_place}
 use Rattle.drain_laws.proofs.Resting.{Rest, none}
 use Rattle.drain_laws.proofs.Rested.{drain_rest}
 use Rattle.drain_laws.proofs.Rests.{rests_journal, lists_rest}
 use Rattle.drain_laws.proofs.Idle.{idle_drain, idle_empty, idle_is_empty}
+use Rattle.drain_laws.proofs.Tests.{and_last, not_both, or_none}
 
 -- the stack pauses, and this is the first position that isn't Paused
 pub record IsAt (net : Net) (front : ℕ) : Type 0 where
@@ -159,13 +157,10 @@ pause_steps : (net : Net) (front : ℕ) → IsAt net front → OutcomeSteps net 
 pause_steps net front h =
     by_test (OutcomeSteps net front) (phase_is_pausing net.phase) (pause_at net (first_unpaused net)) _
     (λ _. subst (λ i. OutcomeSteps net front (pause_at net i)) (sym here) (steps_at net front h))
-    (λ f. absurd (both (phase_is_pausing net.phase) (ap phase_is_pausing h.phase) f))
+    (λ f. absurd (not_both (phase_is_pausing net.phase) (ap phase_is_pausing h.phase) f))
   where
     here : first_unpaused net ≡ front
     here = first_unpaused_is net (length net.head.bindings) front (front + 1) h.pausing.some h.pausing.within h.pausing.states
-
-    both : (b : Bool) → b ≡ true → b ≡ false → ⊥
-    both b t f = cc
 
 -- the turn of a PauseNext
 turn_steps : (net : Net) (front : ℕ) (turn : Turn) → IsAt net front → Next net turn → turn.event ≡ event.PauseNext → Steps net front turn.reply turn.rows
@@ -205,7 +200,7 @@ module _ (each : EachInPlace) (head : StackHead) (some : 1 ≤ length head.bindi
   idle_reached : (net : Net) (turn : Turn) → IsReached head net → net.phase ≡ phase.Pausing → NoneCrossed net → Next net turn → turn.event ≡ event.Drain → turn.reply ≡ reply.Idle → lists net.things ≡ []
   idle_reached net turn r =
       subst (λ m. m.phase ≡ phase.Pausing → NoneCrossed m → Next m turn → turn.event ≡ event.Drain → turn.reply ≡ reply.Idle → lists m.things ≡ []) r.is
-      (λ p free n e i. ap lists (idle_is_empty each head r.turns turn r.sound n some p free e i).0)
+      (λ p free n e i. ap lists (idle_is_empty each head r.turns turn r.sound n p free e i).0)
 
   moves : (net : Net) (turn : Turn) → IsReached head net → net.phase ≡ phase.Pausing → NoneCrossed net → Next net turn → turn.event ≡ event.Drain → (lists net.things ≡ [] → ⊥) → drains_some turn ≡ true
   moves net turn r p free n e live = by (drain_moves net n.choice.keeps)
@@ -258,14 +253,6 @@ module _ (each : EachInPlace) (head : StackHead) (some : 1 ≤ length head.bindi
       let most = h.pausing.within in
       record { most = omega arith; before = λ _. omega (arith, most); on = All-nil (λ (t : Turn). goes_on t.reply ≡ true) }
 
-  and_last : (a b : Bool) → (a && b) ≡ true → b ≡ true
-  and_last true b h = h
-  and_last false b h = cc
-
-  or_last : (a b : Bool) → (a || b) ≡ false → b ≡ false
-  or_last true b h = cc
-  or_last false b h = h
-
   drain_left : (turn : Turn) (more : List Turn) → EachLeft more → (net : Net) (front : ℕ) → IsReached head net → IsAt net front → NoneCrossed net → (lists net.things ≡ [] → ⊥) → SoundFrom net (turn ∷ more) → PausesAndDrains true (turn ∷ more) → Left true net front (turn ∷ more)
   drain_left turn more rest net front r h free live s p =
       let still : is_still net.phase ≡ true = ap is_still h.phase in
@@ -278,7 +265,7 @@ module _ (each : EachInPlace) (head : StackHead) (some : 1 ≤ length head.bindi
       let most = later.most in
       record {
         most = omega (arith, less, one, most, order);
-        before = λ e. let before = later.before (or_last (ends_pause turn.reply) (is_ended more) e) in omega (arith, less, one, before, order);
+        before = λ e. let before = later.before (or_none (ends_pause turn.reply) (is_ended more) e).1 in omega (arith, less, one, before, order);
         on = one_more turn more (moved_on turn.reply (and_last (is_drain turn.event) (is_moved turn.reply) moved)) later.on;
       }
 
@@ -290,17 +277,13 @@ module _ (each : EachInPlace) (head : StackHead) (some : 1 ≤ length head.bindi
           subst (λ m. IsReached head m → SoundFrom m more → Left true net front more) (sym e)
           (λ q t. rest true net front q h free (λ _. live) t (subst (λ b. PausesAndDrains b more) w p.2)) q t
 
-      ended : (a b : Bool) → a ≡ true → (a || b) ≡ false → ⊥
-      ended true b t h = cc
-      ended false b t h = cc
-
       by : Steps net front turn.reply turn.rows → Left false net front (turn ∷ more)
       by (inl w) =
           let later : Left true net front more = waits (after_turn net turn) (turn_after net turn p.0 ∙ ap (after_rows net) w.1) (reached_next head net turn r s.0) s.1 w.0 w.2 in
           let most = later.most in
           record {
             most = omega (arith, most);
-            before = λ e. let before = later.before (or_last (ends_pause turn.reply) (is_ended more) e) in omega (arith, before);
+            before = λ e. let before = later.before (or_none (ends_pause turn.reply) (is_ended more) e).1 in omega (arith, before);
             on = one_more turn more (waiting_on turn.reply w.0) later.on;
           }
       by (inr (inl e)) =
@@ -309,7 +292,7 @@ module _ (each : EachInPlace) (head : StackHead) (some : 1 ≤ length head.bindi
           let within = h.pausing.within in
           record {
             most = omega (arith, size, within);
-            before = λ f. absurd (ended (ends_pause turn.reply) (is_ended more) e f);
+            before = λ f. absurd (not_both (ends_pause turn.reply) e (or_none (ends_pause turn.reply) (is_ended more) f).0);
             on = one_more turn more (ending_on turn.reply e) (subst (All (λ (t : Turn). goes_on t.reply ≡ true)) (sym none) (All-nil (λ (t : Turn). goes_on t.reply ≡ true)));
           }
       by (inr (inr g)) =
@@ -324,7 +307,7 @@ module _ (each : EachInPlace) (head : StackHead) (some : 1 ≤ length head.bindi
           let most = later.most in
           record {
             most = omega (arith, less, most, order, within);
-            before = λ e. let before = later.before (or_last (ends_pause turn.reply) (is_ended more) e) in omega (arith, less, before, order, within);
+            before = λ e. let before = later.before (or_none (ends_pause turn.reply) (is_ended more) e).1 in omega (arith, less, before, order, within);
             on = one_more turn more (ap goes_on g.0) later.on;
           }
 
@@ -334,8 +317,9 @@ module _ (each : EachInPlace) (head : StackHead) (some : 1 ≤ length head.bindi
   left (turn ∷ more) false net front r h free live s p = pause_left turn more (left more) net front r h free s p
 
 pub pauses_in_time : EachInPlace → PausesInTime
-pauses_in_time each head turns more s some p free d =
+pauses_in_time each head turns more s p free d =
     let net : Net = seen head turns in
+    let some : 1 ≤ length head.bindings = some_binding head turns (sound_front head turns more s) p in
     let r : IsReached head net = reached_front head turns more s in
     let start = at_start head turns (sound_front head turns more s) p in
     let all : Left each head some false net start.0 more = left each head some more false net start.0 r start.1 free (λ e. absurd (cc)) (sound_rest head turns more s) d in

@@ -1,9 +1,18 @@
 -- The states that sound journals lead to.
-use Rattle.std.proofs.Common.{◌≡◌, List, [], ◌∷◌, ◌++◌, refl, subst, sym, ◌∙◌, ap}
+use Rattle.std.proofs.Common.{◌≡◌, ◌≤◌, List, [], ◌∷◌, ◌++◌, length, refl, arith, subst, sym, ◌∙◌, ap}
+use Rattle.ndis_base.specs.declared.Phase.TheVariants as phase
+use Rattle.journal_types.specs.declared.Event.{Event}
+use Rattle.journal_types.specs.declared.Event.TheVariants as event
+use Rattle.journal_types.specs.declared.PhaseOf.TheVariants as of
+use Rattle.journal_types.specs.declared.Reply.{Reply}
+use Rattle.journal_types.specs.declared.Reply.TheVariants as reply
+use Rattle.journal_types.specs.declared.Row.{Row}
+use Rattle.journal_types.specs.declared.Row.TheVariants as row
 use Rattle.journal_types.specs.declared.StackHead.{StackHead}
 use Rattle.journal_types.specs.declared.Turn.{Turn}
-use Rattle.stack_rules.specs.Net.{Net, start, after_turn, after_turns, seen}
+use Rattle.stack_rules.specs.Net.{Net, after, after_rows, after_turn, after_turns, seen, start, told}
 use Rattle.stack_rules.specs.Sound.{Next, Sound, SoundFrom}
+use Rattle.state_laws.proofs.Events.{at_phase, shaped_journal}
 
 -- a sound journal leads to the state
 pub record IsReached (head : StackHead) (net : Net) : Type 0 where
@@ -45,3 +54,32 @@ reached_next head net turn r n = record {
 -- what holds after every sound journal holds of the state
 pub of_reached : (P : Net → Type 0) (head : StackHead) (net : Net) → IsReached head net → ((turns : List Turn) → Sound head turns → P (seen head turns)) → P net
 of_reached P head net r f = subst P r.is (f r.turns r.sound)
+
+-- the head stays
+head_row : (net : Net) (r : Row) → (after net r).head ≡ net.head
+head_row net (row.Phase (of.Module m s)) = refl
+head_row net (row.Phase (of.Stack p)) = refl
+head_row net _ = refl
+
+head_rows : (net : Net) (rows : List Row) → (after_rows net rows).head ≡ net.head
+head_rows net [] = refl
+head_rows net (r ∷ rows) = head_rows (after net r) rows ∙ head_row net r
+
+head_told : (net : Net) (e : Event) (r : Reply) → (told net e r).head ≡ net.head
+head_told net (event.Insert kind position setup) (reply.Inserted f) = refl
+head_told net (event.Replace old kind setup) (reply.Replaced f) = refl
+head_told net (event.CrossTakeUp binding vlan) (reply.Taken message frames) = refl
+head_told net e r = refl
+
+head_turns : (net : Net) (turns : List Turn) → (after_turns net turns).head ≡ net.head
+head_turns net [] = refl
+head_turns net (turn ∷ turns) = head_turns (after_turn net turn) turns ∙ head_rows (told net turn.event turn.reply) turn.rows ∙ head_told net turn.event turn.reply
+
+-- a stack that pauses has a binding
+pub some_binding : (head : StackHead) (turns : List Turn) → Sound head turns → (seen head turns).phase ≡ phase.Pausing → 1 ≤ length head.bindings
+some_binding head turns s p =
+    let net : Net = seen head turns in
+    let f = at_phase net phase.Pausing (shaped_journal head turns s) p in
+    let some = f.1.some in
+    let same : length net.head.bindings ≡ length head.bindings = ap (λ (h : StackHead). length h.bindings) (head_turns (start head) turns) in
+    omega (arith, some, same)

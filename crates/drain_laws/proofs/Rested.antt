@@ -1,6 +1,6 @@
 -- Each event that changes no state of a module leaves the live lists resting.
-use Rattle.std.proofs.Common.{◌≡◌, ℕ, ◌+◌, ◌==◌, ◌&&◌, ◌||◌, not, Bool, true, false, cond, List, [], ◌∷◌, ◌++◌, Option, Some, None, refl, arith, ap, sym, subst, ◌∙◌, ◌⊎◌, inl, inr, filter, find, map}
-use Rattle.std.specs.List.{All, list_any, flat_map}
+use Rattle.std.proofs.Common.{◌≡◌, ℕ, ◌+◌, ◌==◌, ◌&&◌, ◌||◌, not, Bool, true, false, cond, List, [], ◌∷◌, ◌++◌, Option, Some, None, refl, arith, ap, sym, subst, ◌∙◌, inl, inr, filter, find, map}
+use Rattle.std.specs.List.{flat_map}
 use Rattle.std.proofs.lemmas.Bool.Decides.{nat_tests}
 use Rattle.std.proofs.lemmas.List.Folds.{list_any-append}
 use Rattle.ndis_base.specs.declared.ListNo.{ListNo}
@@ -14,43 +14,37 @@ use Rattle.ndis_base.specs.declared.Origin.{Origin}
 use Rattle.ndis_base.specs.declared.Origin.TheVariants as origin
 use Rattle.ndis_base.specs.declared.StatusName.{StatusName}
 use Rattle.ndis_base.specs.declared.StatusNo.{StatusNo}
-use Rattle.journal_types.specs.declared.Event.{Event}
-use Rattle.journal_types.specs.declared.Event.TheVariants as event
 use Rattle.journal_types.specs.declared.Handler.TheVariants as handler
 use Rattle.journal_types.specs.declared.How.{How}
 use Rattle.journal_types.specs.declared.How.TheVariants as how
-use Rattle.journal_types.specs.declared.OutWay.TheVariants as out
 use Rattle.journal_types.specs.declared.PassWay.TheVariants as way
 use Rattle.journal_types.specs.declared.Target.{Target}
 use Rattle.journal_types.specs.declared.Target.TheVariants.{Module, Bindings}
 use Rattle.journal_types.specs.declared.Row.{Row}
 use Rattle.journal_types.specs.declared.Row.TheVariants as row
 use Rattle.stack_rules.specs.declared.Attached.{Attached}
-use Rattle.stack_rules.specs.declared.Choice.{Choice}
 use Rattle.stack_rules.specs.declared.LiveList.{LiveList}
-use Rattle.stack_rules.specs.declared.Message.{Message}
 use Rattle.stack_rules.specs.declared.Stand.{Stand}
 use Rattle.stack_rules.specs.declared.Stand.TheVariants as stand
 use Rattle.stack_rules.specs.declared.Thing.{Thing}
 use Rattle.stack_rules.specs.declared.Thing.TheVariants as thing
-use Rattle.stack_rules.specs.Tests.{is_hold, is_retain, is_running, is_virtual, phase_is_running, same_frames, same_module, is_unbound, is_halted}
-use Rattle.stack_rules.specs.Net.{Net, after, after_rows, attached, binding_numbers, kind_of_binding, lists, list_of, told}
-use Rattle.stack_rules.specs.Places.{position, has_clone, is_clone_of, is_away, agenda_first, is_full, is_kept_by, ready_lists, state_of}
-use Rattle.stack_rules.specs.Targets.{homeward, turned_back, has_receive}
+use Rattle.stack_rules.specs.Tests.{is_hold, is_retain, is_running, is_virtual, phase_is_running, same_frames, same_module}
+use Rattle.stack_rules.specs.Net.{Net, after, after_rows, attached, binding_numbers, kind_of_binding, lists, list_of}
+use Rattle.stack_rules.specs.Places.{position, has_clone, is_clone_of, is_away, agenda_first, is_full, ready_lists}
+use Rattle.stack_rules.specs.Targets.{homeward}
 use Rattle.stack_rules.specs.Outcome.{Outcome, list_no, config_no}
-use Rattle.stack_rules.specs.Handled.{made_of, cloned, stays, changes, handled_as, given_by, filter_rows}
-use Rattle.stack_rules.specs.Sends.{ring_is_full, at_filter, down_rows, looped, loops, transmitted, transmit_of, first_in_ring, first_of}
-use Rattle.stack_rules.specs.Deliveries.{takes, takers, echoes, echoed, how_for, delivered, last_of, settled, delivery_rows}
-use Rattle.stack_rules.specs.Receives.{up_at_filter, up_rows, give_back_of}
+use Rattle.stack_rules.specs.Handled.{made_of, cloned, stays, handled_as, given_by, filter_rows}
+use Rattle.stack_rules.specs.Sends.{ring_is_full, at_filter, down_rows, loops, transmitted, first_of}
+use Rattle.stack_rules.specs.Deliveries.{takers, echoes, echoed, how_for, delivered, last_of, settled, delivery_rows}
+use Rattle.stack_rules.specs.Receives.{up_at_filter, up_rows}
 use Rattle.stack_rules.specs.Dones.{released_list, released, homeward_rows, completed_by}
 use Rattle.stack_rules.specs.Requests.{Giving, next_giving, giving_rows, given_rows_by, answer_rows}
 use Rattle.stack_rules.specs.Statuses.{seen_by_all, status_rows}
 use Rattle.stack_rules.specs.Pumps.{moved_rows, thing_rows, request_pump, pump_of, pump_outcome, pump_moves}
-use Rattle.stack_rules.specs.Drains.{returned_by, returns_all, passed_by, passes_all, empties, empties_ring, first_rows, drain_rows, drained, drain_outcome}
+use Rattle.stack_rules.specs.Drains.{returned_by, returns_all, passed_by, passes_all, empties, empties_ring, drain_rows, drained, drain_outcome}
 use Rattle.stack_rules.specs.Cancels.{holds_lists, hold_in, cancelled_at, aborted, cancel_rows_at, queues}
 use Rattle.stack_rules.specs.Rewires.{is_in}
-use Rattle.rule_basics.specs.Live.{Each, others, is_live}
-use Rattle.rule_basics.proofs.Each.{Each-implies}
+use Rattle.rule_basics.specs.Live.{Each, is_live}
 use Rattle.rule_basics.proofs.Lists.{lists-append, lists-without}
 use Rattle.rule_basics.proofs.Lives.{find_is, find_none, is_live-others}
 use Rattle.home_laws.proofs.Known.{by_test, thing_found, OfThing}
@@ -59,36 +53,20 @@ use Rattle.state_laws.proofs.Calm.{All-append, All-map, first_of_all}
 use Rattle.state_laws.proofs.Takes.{attached-is}
 use Rattle.work_laws.proofs.Clones.{any_clone}
 use Rattle.work_laws.proofs.Hands.{Found}
-use Rattle.work_laws.proofs.Moves.{same_is}
 use Rattle.work_laws.proofs.Pumps.{all_found}
-use Rattle.drain_laws.specs.Resting.{MayKeep, Rests}
-use Rattle.drain_laws.proofs.Resting.{Fine, Rest, none, only, closes_none, closes_only, issue_rest, pass_rest, keep_rest, home_rest, is_plain_row, plain_rest, onward_rest, homeward_rest, issue_on, KeepsRest, back_rest}
+use Rattle.drain_laws.proofs.Resting.{Fine, Rest, none, only, closes_none, closes_only, issue_rest, keep_rest, home_rest, is_plain_row, plain_rest, onward_rest, homeward_rest, issue_on, KeepsRest, back_rest}
+use Rattle.drain_laws.proofs.Tests.{and_last, itself, or_left, or_none, or_right}
 
 -- the rows of an event leave all lists resting
 abbrev pub Leaves : Net → Net → List Row → Type 0
 Leaves net next rows = Rest net none (after_rows next rows)
 
 -- at a filter
-or_right : (a b : Bool) → b ≡ true → (a || b) ≡ true
-or_right true b h = refl
-or_right false b h = h
-
-or_false : (b : Bool) → b ≡ true → (b || false) ≡ true
-or_false true h = refl
-or_false false h = cc
-
-and_right : (a b : Bool) → (a && b) ≡ true → b ≡ true
-and_right true b h = h
-and_right false b h = cc
-
-itself : (n : ℕ) → (n == n) ≡ true
-itself n = grind (arith, nat_tests)
-
 module _ (net : Net) (a : Attached) (l : LiveList) (there : attached a.filter net.modules.filters ≡ Some a) (given : Net) (e : given.next.list ≡ net.next.list) (h : Rest net none given) where
   stays_rest : (keeps : Bool) → Leaves net given (stays net a l keeps)
   stays_rest keeps =
       by_test (Leaves net given) (keeps && is_hold a.kind) _ _
-      (λ t. keep_rest net given none none l.list (Filter a.filter) (closes_none l.list.0) (inl (ap hold_in there ∙ and_right keeps (is_hold a.kind) t)) h)
+      (λ t. keep_rest net given none none l.list (Filter a.filter) (closes_none l.list.0) (inl (ap hold_in there ∙ and_last keeps (is_hold a.kind) t)) h)
       (λ _. onward_rest net given none none net.modules l.list l.direction (position net.modules.order (Filter a.filter)) (closes_none l.list.0) h)
 
   cloned_rest : (frames : List (List ℕ)) → Leaves net given (cloned net a l frames)
@@ -101,7 +79,7 @@ module _ (net : Net) (a : Attached) (l : LiveList) (there : attached a.filter ne
       let has : has_clone issued l.list.0 ≡ true =
       ap (any_clone l.list.0) (lists-append given.things _)
       ∙ list_any-append (λ (x : LiveList). is_clone_of l.list.0 x.origin) (lists given.things) _
-      ∙ or_right (any_clone l.list.0 (lists given.things)) _ (or_false (l.list.0 == l.list.0) (itself l.list.0)) in
+      ∙ or_right (any_clone l.list.0 (lists given.things)) _ (or_left (l.list.0 == l.list.0) false (itself l.list.0)) in
       let kept : Rest net (only net.next.list) (after issued (row.Keep l.list (Filter a.filter))) =
       keep_rest net issued (only net.next.list) (only net.next.list) l.list (Filter a.filter) (λ k o t. o) (inr has) first in
       onward_rest net (after issued (row.Keep l.list (Filter a.filter))) (only net.next.list) none net.modules n l.direction (position net.modules.order (Filter a.filter)) (closes_only net.next.list) kept
@@ -159,7 +137,7 @@ echo_rest net next loose b n frames e h = issue_on net next loose net.modules (l
 
 last_in : (b : ℕ) (bs : List ℕ) → last_of bs ≡ Some b → is_in b bs ≡ true
 last_in b [] e = cc
-last_in b (c ∷ []) e = let same : c ≡ b = cc in or_false (c == b) (grind (arith, nat_tests))
+last_in b (c ∷ []) e = let same : c ≡ b = cc in or_left (c == b) false (grind (arith, nat_tests))
 last_in b (c ∷ d ∷ bs) e = or_right (c == b) (is_in b (d ∷ bs)) (last_in b (d ∷ bs) e)
 
 some_in : (b : ℕ) (test : ℕ → Bool) (bs : List ℕ) → is_in b (filter test bs) ≡ true → is_in b bs ≡ true
@@ -180,7 +158,7 @@ settled_rest net next l keeps None e h = homeward_rest net next none none net.mo
 settled_rest net next l keeps (Some b) e h =
     by_test (Leaves net next) (keeps && is_retain (kind_of_binding net.head b)) _ _
     (λ t. keep_rest net next none none l.list (Binding b) (closes_none l.list.0)
-    (some_in b _ (binding_numbers net.head) (last_in b (takers net l.frames) e), and_right keeps (is_retain (kind_of_binding net.head b)) t) h)
+    (some_in b _ (binding_numbers net.head) (last_in b (takers net l.frames) e), and_last keeps (is_retain (kind_of_binding net.head b)) t) h)
     (λ _. homeward_rest net next none none net.modules l.list l.owner l.direction 0 Success (closes_none l.list.0) h)
 
 delivery_rest : (net : Net) (l : LiveList) (keeps : Bool) → Rest net none net → Leaves net net (delivery_rows net l keeps)
@@ -202,17 +180,13 @@ up_rest net l (Module (Binding b)) keeps h = h
 no_more : (net next : Net) (n : ℕ) → list_of n (lists next.things) ≡ None → Rest net (only n) next → Rest net none next
 no_more net next n f h = record { numbered = h.numbered; each = each_of (lists next.things) (find_none n (lists next.things) f) h.each; free = h.free }
   where
-    split : (a b : Bool) → (a || b) ≡ false → (a ≡ false) × (b ≡ false)
-    split true b e = cc
-    split false b e = (refl, e)
-
     closed : (l : LiveList) → (l.list.0 == n) ≡ false → Fine net (only n) (has_clone next) l → Fine net none (has_clone next) l
     closed l e (inl o) = cc
     closed l e (inr r) = inr r
 
     each_of : (ls : List LiveList) → is_live n ls ≡ false → Each (Fine net (only n) (has_clone next)) ls → Each (Fine net none (has_clone next)) ls
     each_of [] e k = tt
-    each_of (x ∷ ls) e k = let s = split (x.list.0 == n) (is_live n ls) e in (closed x s.0 k.0, each_of ls s.1 k.1)
+    each_of (x ∷ ls) e k = let s = or_none (x.list.0 == n) (is_live n ls) e in (closed x s.0 k.0, each_of ls s.1 k.1)
 
 module _ (net : Net) (l : LiveList) (status : ListStatus) (found : Found net l) (h : Rest net none net) where
   released_rest : (o : ListNo) (x : Option LiveList) → list_of o.0 (lists net.things) ≡ x → Rest net (only o.0) (after net (row.Home l.list l.owner status)) → Leaves net (after net (row.Home l.list l.owner status)) (released_list net l.owner status x)

@@ -1,8 +1,6 @@
 -- How each row leaves the live lists on their way or kept by a module that may, but for some that are just worked.
-use Rattle.std.proofs.Common.{◌≡◌, ℕ, ◌+◌, ◌==◌, ◌||◌, not, Bool, true, false, cond, List, [], ◌∷◌, ◌++◌, Option, Some, None, refl, arith, ap, sym, subst, ◌∙◌, ◌⊎◌, inl, inr, filter}
-use Rattle.std.specs.List.{list_any}
+use Rattle.std.proofs.Common.{◌≡◌, ℕ, ◌==◌, ◌||◌, not, Bool, true, false, cond, List, [], ◌∷◌, Option, Some, None, refl, arith, ap, sym, subst, ◌∙◌, ◌⊎◌, inl, inr}
 use Rattle.std.proofs.lemmas.Bool.Decides.{nat_tests}
-use Rattle.std.proofs.lemmas.List.Folds.{list_any-append}
 use Rattle.ndis_base.specs.declared.CrossNo.{CrossNo}
 use Rattle.ndis_base.specs.declared.ListNo.{ListNo}
 use Rattle.ndis_base.specs.declared.ListStatus.{ListStatus}
@@ -15,7 +13,6 @@ use Rattle.ndis_base.specs.declared.Origin.{Origin}
 use Rattle.ndis_base.specs.declared.Origin.TheVariants as origin
 use Rattle.journal_types.specs.declared.OutWay.TheVariants as out
 use Rattle.journal_types.specs.declared.PassWay.{PassWay}
-use Rattle.journal_types.specs.declared.PassWay.TheVariants as way
 use Rattle.journal_types.specs.declared.Target.{Target}
 use Rattle.journal_types.specs.declared.Row.{Row}
 use Rattle.journal_types.specs.declared.Row.TheVariants as row
@@ -24,8 +21,8 @@ use Rattle.stack_rules.specs.declared.Stand.{Stand}
 use Rattle.stack_rules.specs.declared.Stand.TheVariants as stand
 use Rattle.stack_rules.specs.Net.{Net, Modules, after, after_rows, lists, list_of, had_by, taken_by, kept_by, passed_to, request_of}
 use Rattle.stack_rules.specs.Places.{position, has_clone, is_clone_of, is_crossed}
-use Rattle.stack_rules.specs.Targets.{onward, homeward, homeward_by, turned_back}
-use Rattle.rule_basics.specs.Live.{IsApart, Each, KeepsNumber, others, retouched, with_last}
+use Rattle.stack_rules.specs.Targets.{onward, homeward_by, turned_back}
+use Rattle.rule_basics.specs.Live.{IsApart, Each, others, retouched, with_last}
 use Rattle.rule_basics.specs.Numbers.{IsNumbered}
 use Rattle.rule_basics.proofs.Each.{Each-append, Each-found, Each-implies, Each-others, Each-retouched}
 use Rattle.rule_basics.proofs.Lists.{lists-append, lists-without, lists-changed, lists-kept, lists-passed}
@@ -35,6 +32,7 @@ use Rattle.work_laws.proofs.Weights.{Stay}
 use Rattle.work_laws.proofs.Clones.{any_clone, clones_after, taken_any}
 use Rattle.drain_laws.specs.Drains.{NoneCrossed}
 use Rattle.drain_laws.specs.Resting.{MayKeep, Rests}
+use Rattle.drain_laws.proofs.Tests.{itself, or_first, or_left, or_right}
 
 -- a clone that is new changes nothing
 may_more : (base : Net) (b c : Bool) (m : ModuleId) → (b ≡ true → c ≡ true) → MayKeep base b m → MayKeep base c m
@@ -164,10 +162,6 @@ keep_rest base next loose closed list m c may h =
     was_free (Some x) i l f e = subst IsFree (some_same (record x { last = m; stand = stand.Kept m }) l e) (Each-found IsFree list.0 (lists next.things) x f i)
 
 -- a list is home: what it was a clone of may have no clone any more
-or_first : (a b : Bool) → b ≡ false → (a || b) ≡ true → a ≡ true
-or_first true b e h = refl
-or_first false b e h = cc
-
 pub home_rest : (base next : Net) (loose closed : ℕ → Bool) (l : LiveList) (owner : ModuleId) (status : ListStatus) → list_of l.list.0 (lists next.things) ≡ Some l → Closes l.list.0 loose closed → ((o : ListNo) → l.origin ≡ origin.Clone o → closed o.0 ≡ true) →
     Rest base loose next → Rest base closed (after next (row.Home l.list owner status))
 home_rest base next loose closed l owner status found c opens h =
@@ -185,17 +179,20 @@ home_rest base next loose closed l owner status found c opens h =
     still : (n : ℕ) → is_clone_of n l.origin ≡ false → has_clone next n ≡ true → has_clone (after next (row.Home l.list owner status)) n ≡ true
     still n e t = ap (any_clone n) (lists-without l.list.0 next.things) ∙ or_first (any_clone n (others l.list.0 (lists next.things))) (is_clone_of n l.origin) e (taken_any n l.list.0 (lists next.things) l h.numbered.apart found t)
 
-    clone_is : (n : ℕ) (by : Origin) → is_clone_of n by ≡ true → (o : ListNo) × (by ≡ origin.Clone o) × (o.0 ≡ n)
+    clone_is : (n : ℕ) (by : Origin) → is_clone_of n by ≡ true → (o : ListNo) × (by ≡ origin.Clone o) × (n ≡ o.0)
     clone_is n origin.Root t = cc
     clone_is n (origin.Copy o) t = cc
     clone_is n (origin.Clone o) t = (o, refl, grind (arith, nat_tests))
+
+    loosened : (n : ℕ) → (o : ListNo) × (l.origin ≡ origin.Clone o) × (n ≡ o.0) → closed n ≡ true
+    loosened n o = ap closed o.2 ∙ opens o.0 o.1
 
     one : (k : LiveList) → (k.list.0 == l.list.0) ≡ false → Fine base loose (has_clone next) k → Fine base closed (has_clone (after next (row.Home l.list owner status))) k
     one k t (inl o) = inl (c k.list.0 o t)
     one k t (inr r) = by (is_clone_of k.list.0 l.origin) refl
       where
         by : (b : Bool) → is_clone_of k.list.0 l.origin ≡ b → Fine base closed (has_clone (after next (row.Home l.list owner status))) k
-        by true e = let o = clone_is k.list.0 l.origin e in inl (ap closed (sym o.2) ∙ opens o.0 o.1)
+        by true e = inl (loosened k.list.0 (clone_is k.list.0 l.origin e))
         by false e = inr (rests_more base (has_clone next k.list.0) _ k.stand (still k.list.0 e) r)
 
 -- rows that leave each list where it is
@@ -266,25 +263,10 @@ homeward_rest base next loose closed ms list owner direction.Up i status c h = p
 homeward_rest base next loose closed ms list owner direction.Lent i status c h = pass_rest base next loose closed list _ _ c h
 
 -- a list is issued and goes on
-or_last : (a b : Bool) → (a || b) ≡ true → b ≡ false → a ≡ true
-or_last true b h e = refl
-or_last false b h e = cc
-
-or_right : (a b : Bool) → b ≡ true → (a || b) ≡ true
-or_right true b h = refl
-or_right false b h = h
-
-or_left : (a b : Bool) → a ≡ true → (a || b) ≡ true
-or_left true b h = refl
-or_left false b h = cc
-
-itself : (n : ℕ) → (n == n) ≡ true
-itself n = grind (arith, nat_tests)
-
 pub issue_on : (base next : Net) (loose : ℕ → Bool) (ms : Modules) (list : ListNo) (owner : ModuleId) (config : ConfigNo) (direction : Direction) (cancel : Option ℕ) (origin : Origin) (frames : List (List ℕ)) (i : ℕ) → list.0 ≡ next.next.list →
     Rest base loose next → Rest base loose (after (after next (row.Issue list owner config direction cancel origin frames)) (onward ms list direction i))
 issue_on base next loose ms list owner config direction cancel origin frames i e h =
-    onward_rest base (after next (row.Issue list owner config direction cancel origin frames)) (λ n. loose n || (n == list.0)) loose ms list direction i (λ n o t. or_last (loose n) (n == list.0) o t)
+    onward_rest base (after next (row.Issue list owner config direction cancel origin frames)) (λ n. loose n || (n == list.0)) loose ms list direction i (λ n o t. or_first (loose n) (n == list.0) t o)
     (issue_rest base next loose (λ n. loose n || (n == list.0)) list owner config direction cancel origin frames e (or_right (loose list.0) (list.0 == list.0) (itself list.0), λ n o. or_left (loose n) (n == list.0) o) h)
 
 -- rows that leave all lists resting, whatever came before

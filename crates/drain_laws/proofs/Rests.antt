@@ -1,9 +1,8 @@
 -- After every sound journal the live lists rest.
-use Rattle.std.proofs.Common.{◌≡◌, ℕ, ◌+◌, ◌==◌, ◌||◌, not, Bool, true, false, cond, List, [], ◌∷◌, ◌++◌, Option, Some, None, refl, arith, ap, sym, subst, ◌∙◌, ◌⊎◌, inl, inr, option_map, find, filter, map, reverse, slice_index_or, nat_lt, length}
+use Rattle.std.proofs.Common.{◌≡◌, ℕ, ◌+◌, ◌==◌, ◌||◌, not, Bool, true, false, cond, List, [], ◌∷◌, ◌++◌, Option, Some, None, refl, ap, sym, subst, ◌∙◌, ◌⊎◌, inl, inr, option_map, filter, map, reverse, slice_index_or, nat_lt, length}
 use Rattle.std.specs.List.{list_any}
 use Rattle.ndis_base.specs.declared.ListStatus.{ListStatus}
 use Rattle.ndis_base.specs.declared.ListStatus.TheVariants.{Success}
-use Rattle.ndis_base.specs.declared.ListNo.{ListNo}
 use Rattle.ndis_base.specs.declared.Direction.{Direction}
 use Rattle.ndis_base.specs.declared.Direction.TheVariants as direction
 use Rattle.ndis_base.specs.declared.ModuleId.{ModuleId}
@@ -15,15 +14,12 @@ use Rattle.ndis_base.specs.declared.Phase.{Phase}
 use Rattle.ndis_base.specs.declared.Phase.TheVariants as phase
 use Rattle.journal_types.specs.declared.Event.{Event}
 use Rattle.journal_types.specs.declared.Event.TheVariants as event
-use Rattle.journal_types.specs.declared.OutWay.TheVariants as out
 use Rattle.journal_types.specs.declared.PhaseOf.TheVariants as of
 use Rattle.journal_types.specs.declared.Reply.{Reply}
-use Rattle.journal_types.specs.declared.Reply.TheVariants as reply
 use Rattle.journal_types.specs.declared.Row.{Row}
 use Rattle.journal_types.specs.declared.Row.TheVariants as row
 use Rattle.journal_types.specs.declared.StackHead.{StackHead}
 use Rattle.journal_types.specs.declared.Turn.{Turn}
-use Rattle.journal_types.specs.declared.Way.TheVariants as crossing
 use Rattle.program_types.specs.Apply.{pushed}
 use Rattle.stack_rules.specs.declared.Attached.{Attached}
 use Rattle.stack_rules.specs.declared.Choice.{Choice}
@@ -31,24 +27,22 @@ use Rattle.stack_rules.specs.declared.LiveList.{LiveList}
 use Rattle.stack_rules.specs.declared.Message.{Message}
 use Rattle.stack_rules.specs.declared.Stand.{Stand}
 use Rattle.stack_rules.specs.declared.Stand.TheVariants as stand
-use Rattle.stack_rules.specs.declared.Thing.{Thing}
 use Rattle.stack_rules.specs.Tests.{is_retain, is_running, is_unbound, is_halted, phase_is_running, phase_is_paused, phase_is_pausing, phase_is_halted, phase_is_restarting}
-use Rattle.stack_rules.specs.Net.{Net, Modules, after, after_rows, after_turn, after_turns, attached, binding_numbers, kind_of_binding, lists, list_of, seen, start, told, with_state, is_detached}
+use Rattle.stack_rules.specs.Net.{Net, after, after_rows, after_turn, after_turns, attached, binding_numbers, kind_of_binding, lists, list_of, seen, start, told, with_state, is_detached}
 use Rattle.stack_rules.specs.Places.{position, has_clone, is_clone_of, is_crossed, is_full, is_kept_by, outstanding, state_of}
-use Rattle.stack_rules.specs.Targets.{onward, homeward, next_status}
+use Rattle.stack_rules.specs.Targets.{onward, next_status}
 use Rattle.stack_rules.specs.Outcome.{Outcome, list_no, oid_no, status_no, cross_no, config_no}
 use Rattle.stack_rules.specs.Cancels.{hold_in, holds_lists}
 use Rattle.stack_rules.specs.Crosses.{first_uncrossed, take_of, done_of, take_up_of, grows_too_long, mux_binding_for}
-use Rattle.stack_rules.specs.Pauses.{floors, state_row, state_rows, binding_ids, first_unpaused, paused_rows, pause_outcome, begin_outcome, restarting, restart_rows, restart_outcome, running_floors, is_top}
+use Rattle.stack_rules.specs.Pauses.{floors, state_rows, binding_ids, first_unpaused, pause_outcome, begin_outcome, restarting, restart_outcome, running_floors, is_top}
 use Rattle.stack_rules.specs.Receives.{give_back_of}
 use Rattle.stack_rules.specs.Rewires.{is_in}
 use Rattle.stack_rules.specs.Sends.{transmit_of, first_in_ring}
 use Rattle.stack_rules.specs.Sound.{outcome, Next, Sound, SoundFrom}
 use Rattle.rule_basics.specs.Live.{Each, IsApart, IsBelow}
-use Rattle.rule_basics.specs.Numbers.{IsNumbered}
 use Rattle.rule_basics.proofs.Each.{Each-implies}
 use Rattle.home_laws.proofs.Known.{by_test}
-use Rattle.state_laws.proofs.Rows.{IsSame, after_rows-append}
+use Rattle.state_laws.proofs.Rows.{IsSame}
 use Rattle.state_laws.proofs.Quiet.{is_plain}
 use Rattle.state_laws.specs.Shape.{IsShaped}
 use Rattle.state_laws.proofs.Changes.{IsChanged}
@@ -58,7 +52,7 @@ use Rattle.pause_laws.specs.Clear.{IsHeld}
 use Rattle.pause_laws.proofs.Fronts.{none_live}
 use Rattle.pause_laws.proofs.Turns.{held_journal}
 use Rattle.work_laws.specs.Bounds.{is_take}
-use Rattle.drain_laws.specs.Resting.{MayKeep, Rests, IsResting, ListsRest}
+use Rattle.drain_laws.specs.Resting.{Rests, IsResting, ListsRest}
 use Rattle.drain_laws.proofs.Reached.{IsReached, reached_next, of_reached}
 use Rattle.drain_laws.proofs.Resting.{Fine, Rest, none, closes_none, plain_rest, homeward_rest, issue_on, cross_rest}
 use Rattle.drain_laws.proofs.Rested.{Leaves, pump_rest, drain_rest, cancel_rest, transmitted_rest}

@@ -1,5 +1,5 @@
 -- After every sound journal each request waits at a module that takes requests, or is served.
-use Rattle.std.proofs.Common.{◌≡◌, ℕ, ◌+◌, ◌-◌, ◌==◌, ◌&&◌, ◌||◌, not, Bool, true, false, cond, List, [], ◌∷◌, ◌++◌, Option, Some, None, refl, arith, ap, sym, subst, ◌∙◌, option_map, find, filter, map, length, count_by, insert, replicate, get_or}
+use Rattle.std.proofs.Common.{◌≡◌, ℕ, ◌+◌, ◌==◌, not, Bool, true, false, cond, List, [], ◌∷◌, ◌++◌, Option, Some, None, refl, arith, ap, sym, subst, ◌∙◌, option_map, find, filter, map, length, count_by, replicate, get_or}
 use Rattle.std.proofs.lemmas.Bool.Decides.{nat_tests}
 use Rattle.std.proofs.lemmas.List.{get_or_past, get_or-replicate, length-replicate}
 use Rattle.ndis_base.specs.declared.FilterKind.{FilterKind}
@@ -8,7 +8,6 @@ use Rattle.ndis_base.specs.declared.ModuleId.TheVariants.{Miniport, Filter, Bind
 use Rattle.ndis_base.specs.declared.ModuleState.{ModuleState}
 use Rattle.ndis_base.specs.declared.ModuleState.TheVariants as state
 use Rattle.ndis_base.specs.declared.OidKind.{OidKind}
-use Rattle.ndis_base.specs.declared.Phase.{Phase}
 use Rattle.ndis_base.specs.declared.Phase.TheVariants as phase
 use Rattle.journal_types.specs.declared.Event.{Event}
 use Rattle.journal_types.specs.declared.Event.TheVariants as event
@@ -28,7 +27,7 @@ use Rattle.stack_rules.specs.declared.RequestAt.TheVariants as at
 use Rattle.stack_rules.specs.declared.Thing.{Thing}
 use Rattle.stack_rules.specs.declared.Thing.TheVariants as thing
 use Rattle.stack_rules.specs.Tests.{is_unbound, phase_is_halted, phase_is_paused}
-use Rattle.stack_rules.specs.Net.{Net, Modules, after, after_rows, after_turn, after_turns, attached, has_oid, has_oid_pair, is_detached, seen, start, told, with_filter, with_state}
+use Rattle.stack_rules.specs.Net.{Net, Modules, after, after_rows, after_turn, after_turns, attached, has_oid, has_oid_pair, is_detached, start, told, with_state}
 use Rattle.stack_rules.specs.Outcome.{Outcome, oid_no, max_filters}
 use Rattle.stack_rules.specs.Places.{agenda_first, state_of}
 use Rattle.stack_rules.specs.Pauses.{binding_ids, state_row, state_rows, initialize_rows, initialize_outcome, live_items, halt_items, halt_rows, halt_outcome}
@@ -37,10 +36,10 @@ use Rattle.stack_rules.specs.Drains.{drain_rows, drained, drain_outcome}
 use Rattle.stack_rules.specs.Requests.{Giving, given_rows_by, giving_rows, is_at_entry, next_giving, ask_outcome}
 use Rattle.stack_rules.specs.Rewires.{is_bad_position, is_in, insert_outcome, remove_outcome, replace_outcome}
 use Rattle.stack_rules.specs.Statuses.{status_rows}
-use Rattle.stack_rules.specs.Sound.{outcome, Next, Sound, SoundFrom}
+use Rattle.stack_rules.specs.Sound.{outcome, SoundFrom}
 use Rattle.rule_basics.proofs.Counts.{count_by-cons}
 use Rattle.state_laws.specs.Shape.{IsShaped}
-use Rattle.state_laws.proofs.Rows.{by_test, AreCalm, AreQuiet, is_calm, IsSame, after_rows-append, calm_quiet, quiet_rows}
+use Rattle.state_laws.proofs.Rows.{by_test, AreCalm, AreQuiet, is_calm, IsSame, calm_quiet, quiet_rows}
 use Rattle.state_laws.proofs.Calm.{is_calm_event, calm_drained, calm_event, calm_moved, calm_status}
 use Rattle.state_laws.proofs.Events.{state_after, at_phase, shaped_journal, turn_is, when_halted}
 use Rattle.state_laws.proofs.Takes.{attached-with_state}
@@ -48,11 +47,12 @@ use Rattle.place_laws.specs.Kept.{EachRequest, EachApart}
 use Rattle.request_laws.specs.Requested.{IsRequested}
 use Rattle.request_laws.proofs.Givings.{GivesNext, gives_next}
 use Rattle.request_laws.proofs.Events.{requested_journal}
-use Rattle.request_laws.proofs.Rows.{AreStill, AsksSame, asks-refl, asks-then, is_still, still_rows}
+use Rattle.request_laws.proofs.Rows.{AreStill, AsksSame, is_still, still_rows}
 use Rattle.drain_laws.specs.Serving.{Takes, AreServed, RequestsAreServed}
 use Rattle.drain_laws.proofs.Reached.{IsReached, reached_next, of_reached}
 use Rattle.drain_laws.proofs.Rests.{is_gentle, AreGentle, IsGentle, begin_gentle, pause_gentle, restart_gentle}
 use Rattle.drain_laws.proofs.Serving.{served_same, entry_served, ask_served, answer_served, giving_served}
+use Rattle.drain_laws.proofs.Tests.{not_both}
 
 -- each request waits or is served, and a halted stack has none
 pub record IsServing (net : Net) : Type 0 where
@@ -271,11 +271,8 @@ ask_serving net s binding kind code value h =
           let f = at_phase net phase.Halted s e in
           let unbound : state_of net (Binding binding) ≡ state.Unbound = ap (λ states. get_or states binding state.Unbound) f.0.bindings ∙ all_unbound (length net.head.bindings) binding in
           let same : is_unbound (state_of net (Binding binding)) ≡ true = ap is_unbound unbound in
-          absurd (both (is_unbound (state_of net (Binding binding))) same t);
+          absurd (not_both (is_unbound (state_of net (Binding binding))) same t);
     })
-  where
-    both : (b : Bool) → b ≡ true → b ≡ false → ⊥
-    both b t f = cc
 
 -- a pump
 module _ (net : Net) (a : EachApart net.requests) (h : IsServing net) where

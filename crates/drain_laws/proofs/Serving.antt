@@ -1,5 +1,5 @@
 -- How each event leaves the requests waiting at modules that take requests, or served.
-use Rattle.std.proofs.Common.{◌≡◌, ℕ, ◌+◌, ◌==◌, ◌&&◌, ◌||◌, not, Bool, true, false, cond, List, [], ◌∷◌, ◌++◌, Option, Some, None, refl, arith, ap, sym, subst, ◌∙◌, ◌⊎◌, inl, inr, option_map, find, filter, map, length, count_by}
+use Rattle.std.proofs.Common.{◌≡◌, ℕ, ◌==◌, ◌||◌, not, Bool, true, false, cond, List, [], ◌∷◌, ◌++◌, Option, Some, None, refl, arith, ap, sym, subst, ◌∙◌, ◌⊎◌, inl, inr, option_map, filter, map}
 use Rattle.std.specs.List.{list_any}
 use Rattle.std.proofs.lemmas.Bool.Decides.{nat_tests}
 use Rattle.std.proofs.lemmas.List.Folds.{list_any-append}
@@ -8,11 +8,7 @@ use Rattle.ndis_base.specs.declared.ModuleId.TheVariants.{Miniport, Filter, Bind
 use Rattle.ndis_base.specs.declared.OidNo.{OidNo}
 use Rattle.ndis_base.specs.declared.OidKind.{OidKind}
 use Rattle.ndis_base.specs.declared.OidStatus.{OidStatus}
-use Rattle.ndis_base.specs.declared.Phase.TheVariants as phase
-use Rattle.journal_types.specs.declared.Row.{Row}
 use Rattle.journal_types.specs.declared.Row.TheVariants as row
-use Rattle.stack_rules.specs.declared.Answered.{Answered}
-use Rattle.stack_rules.specs.declared.LiveList.{LiveList}
 use Rattle.stack_rules.specs.declared.Request.{Request}
 use Rattle.stack_rules.specs.declared.RequestAt.{RequestAt}
 use Rattle.stack_rules.specs.declared.RequestAt.TheVariants as at
@@ -30,6 +26,7 @@ use Rattle.request_laws.proofs.Givings.{GivesNext}
 use Rattle.request_laws.proofs.Orders.{TakesRequests}
 use Rattle.request_laws.proofs.Rows.{AsksSame}
 use Rattle.drain_laws.specs.Serving.{Takes, is_clone, has_clone_of, has_answer, is_served, IsServed, AreServed}
+use Rattle.drain_laws.proofs.Tests.{itself, not_both, or_both, or_left, or_right}
 
 -- where modules take requests still, and what is served stays served
 served_more : (ms other : Modules) (served more : ℕ → Bool) (n : ℕ) (a : RequestAt) → ((m : ModuleId) → Takes ms m → Takes other m) → (served n ≡ true → more n ≡ true) → IsServed ms served n a → IsServed other more n a
@@ -38,21 +35,6 @@ served_more ms other served more n (at.Waiting m) t s h = t m h
 served_more ms other served more n (at.Given Miniport) t s h = h
 served_more ms other served more n (at.Given (Filter f)) t s h = s h
 served_more ms other served more n (at.Given (Binding b)) t s h = h
-
-or_left : (a b : Bool) → a ≡ true → (a || b) ≡ true
-or_left true b h = refl
-or_left false b h = cc
-
-or_right : (a b : Bool) → b ≡ true → (a || b) ≡ true
-or_right true b h = refl
-or_right false b h = h
-
-or_both : (a b c d : Bool) → (a ≡ true → c ≡ true) → (b ≡ true → d ≡ true) → (a || b) ≡ true → (c || d) ≡ true
-or_both true b c d f g h = or_left c d (f refl)
-or_both false b c d f g h = or_right c d (g h)
-
-itself : (n : ℕ) → (n == n) ≡ true
-itself n = grind (arith, nat_tests)
 
 -- the answers among the things
 any_answered : (n : ℕ) (ts : List Thing) → has_answer n ts ≡ list_any (λ a. a.parent.0 == n) (answered ts)
@@ -272,13 +254,10 @@ to_miniport net r status value a h =
         ((given_to n Miniport q).request.0 == n) ≡ false → IsServed net.modules (is_served given) (given_to n Miniport q).request.0 (given_to n Miniport q).at
     old given n q more i =
         let cases : (b : Bool) → (q.request.0 == n) ≡ b → ((cond b (record q { at = at.Given Miniport }) q).request.0 == n) ≡ false → IsServed net.modules (is_served given) (cond b (record q { at = at.Given Miniport }) q).request.0 (cond b (record q { at = at.Given Miniport }) q).at = elim [
-          | true ↦ λ t e. absurd (both (q.request.0 == n) t e)
+          | true ↦ λ t e. absurd (not_both (q.request.0 == n) t e)
           | false ↦ λ t e. served_more net.modules net.modules (is_served net) (is_served given) q.request.0 q.at (λ m t. t) more i
         ] in
         cases (q.request.0 == n) refl
-      where
-        both : (b : Bool) → b ≡ true → b ≡ false → ⊥
-        both b t f = cc
 
 -- a pump that works a request
 pub giving_served : (net : Net) (g : Giving) → EachApart net.requests → GivesNext net g → AreServed net → AreServed (after_rows net (giving_rows net g))

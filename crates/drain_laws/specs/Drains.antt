@@ -38,7 +38,7 @@ drains_some turn = is_drain turn.event && is_moved turn.reply
 -- at the beginning.
 abbrev pub DrainsAreBounded : Type 0
 DrainsAreBounded =
-    (head : StackHead) (turns more : List Turn) → Sound head (turns ++ more) → 1 ≤ length head.bindings → (seen head turns).phase ≡ Pausing →
+    (head : StackHead) (turns more : List Turn) → Sound head (turns ++ more) → (seen head turns).phase ≡ Pausing →
     All (λ turn. is_draining turn.event ≡ true) more → count_by drains_some more ≤ work (seen head turns)
 
 -- no live list has crossed to another stack
@@ -49,13 +49,13 @@ NoneCrossed net = Each (λ l. is_crossed l.crossed ≡ false) (lists net.things)
 -- live, no status or answer is on its way, and no request waits.
 abbrev pub IdleIsEmpty : Type 0
 IdleIsEmpty =
-    (head : StackHead) (turns : List Turn) (turn : Turn) → Sound head turns → Next (seen head turns) turn → 1 ≤ length head.bindings → (seen head turns).phase ≡ Pausing → NoneCrossed (seen head turns) →
+    (head : StackHead) (turns : List Turn) (turn : Turn) → Sound head turns → Next (seen head turns) turn → (seen head turns).phase ≡ Pausing → NoneCrossed (seen head turns) →
     turn.event ≡ event.Drain → turn.reply ≡ reply.Idle → ((seen head turns).things ≡ []) × ((seen head turns).requests ≡ [])
 
 -- Then a drain is idle exactly where the work is done.
 abbrev pub IdleWhereDone : Type 0
 IdleWhereDone =
-    (head : StackHead) (turns : List Turn) (turn : Turn) → Sound head turns → Next (seen head turns) turn → 1 ≤ length head.bindings → (seen head turns).phase ≡ Pausing → NoneCrossed (seen head turns) →
+    (head : StackHead) (turns : List Turn) (turn : Turn) → Sound head turns → Next (seen head turns) turn → (seen head turns).phase ≡ Pausing → NoneCrossed (seen head turns) →
     turn.event ≡ event.Drain → (turn.reply ≡ reply.Idle) ↔ (work (seen head turns) ≡ 0)
 
 abbrev pub is_waiting : Reply → Bool
@@ -98,5 +98,5 @@ pub record EndsInTime (net : Net) (more : List Turn) : Type 0 where
 -- While a stack pauses, and no list of it has crossed, such a pause ends in time.
 abbrev pub PausesInTime : Type 0
 PausesInTime =
-    (head : StackHead) (turns more : List Turn) → Sound head (turns ++ more) → 1 ≤ length head.bindings → (seen head turns).phase ≡ Pausing → NoneCrossed (seen head turns) → PausesAndDrains false more →
+    (head : StackHead) (turns more : List Turn) → Sound head (turns ++ more) → (seen head turns).phase ≡ Pausing → NoneCrossed (seen head turns) → PausesAndDrains false more →
     EndsInTime (seen head turns) more

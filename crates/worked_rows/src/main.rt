@@ -2,54 +2,14 @@
 //! recorded reports. The file `names` lists the runs, one in a line.
 #![tactic(auto)]
 
-use driver_traits::{MiniportDriver, ProtocolDriver};
 use ndis_base::OutOfMemory;
-use ndis_cli::{Status, ndis_serial};
+use ndis_cli::Status;
 use outside_io::{MemorySink, MemorySource};
-use sample_adapters::RingAdapter;
-use sample_protocols::LogProtocol;
-use stack_book::StackParts;
-use std::alloc::Global;
+use run_tools::{ALL_DRIVERS, replay, run_without_parts};
 use std::{fs, io};
-
-/// How many protocols are handed in.
-const PROTOCOLS: usize = 8;
 
 /// The bytes that a report has at most.
 const ROOM: usize = 1 << 20;
-
-/// Replays a script over one ring adapter and eight log protocols.
-fn replay(alloc: Global, script: Vec<u8>, sink: &mut MemorySink) -> Result<Status, OutOfMemory> {
-    let mut miniports: Vec<Box<dyn MiniportDriver>> = Vec::with_capacity(alloc, 1)?;
-    miniports.push(Box::new(alloc, RingAdapter::make(alloc)?)?)?;
-    let mut protocols: Vec<Box<dyn ProtocolDriver>> = Vec::with_capacity(alloc, PROTOCOLS)?;
-    for _ in 0..PROTOCOLS {
-        protocols.push(Box::new(alloc, LogProtocol::make(alloc)?)?)?;
-    }
-    let mut parts = Vec::with_capacity(alloc, 1)?;
-    parts.push(StackParts {
-        miniports,
-        protocols,
-        shelf: Vec::new(alloc),
-    })?;
-    let mut words = Vec::with_capacity(alloc, 1)?;
-    words.push(String::from_str(alloc, "replay")?)?;
-    let mut source = MemorySource::make(script, Vec::new(alloc));
-    Ok(ndis_serial(alloc, words.as_slice(), &mut source, sink, &mut parts))
-}
-
-/// Replays a script over no drivers at all.
-fn replay_without_parts(
-    alloc: Global,
-    script: Vec<u8>,
-    sink: &mut MemorySink,
-) -> Result<Status, OutOfMemory> {
-    let mut parts: Vec<StackParts> = Vec::new(alloc);
-    let mut words = Vec::with_capacity(alloc, 1)?;
-    words.push(String::from_str(alloc, "replay")?)?;
-    let mut source = MemorySource::make(script, Vec::new(alloc));
-    Ok(ndis_serial(alloc, words.as_slice(), &mut source, sink, &mut parts))
-}
 
 /// How many bytes are the same from the front on.
 fn same_in_front(a: &[u8], b: &[u8]) -> usize {
@@ -68,7 +28,7 @@ fn compare(rt: &HostRuntime, name: &str) -> io::Result<()> {
     let Ok(mut sink) = MemorySink::make(alloc, ROOM, Vec::new(alloc)) else {
         return println!(rt; "{name} out of memory");
     };
-    match replay(alloc, script, &mut sink) {
+    match replay(alloc, ALL_DRIVERS, script.as_slice(), &mut sink) {
         Ok(Status::Done) => {
             if sink.bytes() == report.as_slice() {
                 println!(rt; "{name} ok")
@@ -102,9 +62,10 @@ fn tell_of_nothing(rt: &HostRuntime) -> io::Result<()> {
         return println!(rt; "nothing out of memory");
     };
     let script = fs::read(rt, "first-path-1.script.json")?;
-    let status = replay_without_parts(alloc, script, &mut sink);
+    let mut source = MemorySource::make(script, Vec::new(alloc));
+    let status = run_without_parts(alloc, &["replay"], &mut source, &mut sink);
     tell(rt, "no parts", status, &sink)?;
-    let status = replay(alloc, Vec::new(alloc), &mut sink);
+    let status = replay(alloc, ALL_DRIVERS, &[], &mut sink);
     tell(rt, "no text", status, &sink)
 }
 

@@ -1,0 +1,83 @@
+//! Whole runs of the top call over sample drivers, from a source and to a sink in memory. Programs that
+//! compare what is written stand on it.
+#![tactic(auto)]
+
+use driver_traits::{MiniportDriver, ProtocolDriver};
+use ndis_base::OutOfMemory;
+use ndis_cli::{Status, ndis_serial};
+use outside_io::{MemorySink, MemorySource};
+use sample_adapters::RingAdapter;
+use sample_protocols::LogProtocol;
+use stack_book::StackParts;
+use std::alloc::Global;
+
+/// Which drivers are handed in: a ring adapter or none, and so many log protocols.
+#[derive(Clone, Copy, Debug, PartialEq, Eq)]
+pub struct Drivers {
+    pub has_miniport: bool,
+    pub protocols: usize,
+}
+
+/// A ring adapter and eight log protocols.
+pub const ALL_DRIVERS: Drivers = Drivers {
+    has_miniport: true,
+    protocols: 8,
+};
+
+/// The words as they come from a command line.
+pub fn words_of(alloc: Global, texts: &[&str]) -> Result<Vec<String>, OutOfMemory> {
+    let mut words = Vec::with_capacity(alloc, texts.len())?;
+    for text in texts {
+        words.push(String::from_str(alloc, text)?)?;
+    }
+    Ok(words)
+}
+
+/// Makes the drivers, all new, and calls with these words.
+pub fn run_over(
+    alloc: Global,
+    drivers: Drivers,
+    texts: &[&str],
+    source: &mut MemorySource,
+    sink: &mut MemorySink,
+) -> Result<Status, OutOfMemory> {
+    let mut miniports: Vec<Box<dyn MiniportDriver>> = Vec::new(alloc);
+    if drivers.has_miniport {
+        miniports.push(Box::new(alloc, RingAdapter::make(alloc)?)?)?;
+    }
+    let mut protocols: Vec<Box<dyn ProtocolDriver>> = Vec::new(alloc);
+    for _ in 0..drivers.protocols {
+        protocols.push(Box::new(alloc, LogProtocol::make(alloc)?)?)?;
+    }
+    let mut parts = Vec::with_capacity(alloc, 1)?;
+    parts.push(StackParts {
+        miniports,
+        protocols,
+        shelf: Vec::new(alloc),
+    })?;
+    let words = words_of(alloc, texts)?;
+    Ok(ndis_serial(alloc, words.as_slice(), source, sink, &mut parts))
+}
+
+/// Calls with these words and no parts of a stack.
+pub fn run_without_parts(
+    alloc: Global,
+    texts: &[&str],
+    source: &mut MemorySource,
+    sink: &mut MemorySink,
+) -> Result<Status, OutOfMemory> {
+    let mut parts: Vec<StackParts> = Vec::new(alloc);
+    let words = words_of(alloc, texts)?;
+    Ok(ndis_serial(alloc, words.as_slice(), source, sink, &mut parts))
+}
+
+/// Replays a script, which is read without a fault.
+pub fn replay(
+    alloc: Global,
+    drivers: Drivers,
+    script: &[u8],
+    sink: &mut MemorySink,
+) -> Result<Status, OutOfMemory> {
+    let mut source = MemorySource::make(Vec::from_slice(alloc, script)?, Vec::new(alloc));
+    run_over(alloc, drivers, &["replay"], &mut source, sink)
+}
