@@ -11,7 +11,7 @@ ghost use Rattle.drain_laws.specs.Drains.{ends_pause, is_draining, is_waiting, N
 ghost use Rattle.drain_rows.specs.Laws.{MeetsLaws};
 
 use crate::states::{first_turns, other_turns, state_after};
-use drain_laws::{drains_are_bounded, pauses_end_in_time};
+use drain_laws::{accepted_pauses_begin, drains_are_bounded, pauses_end_in_time};
 use journal_types::{Event, Reply, StackHead, Turn};
 use ndis_base::{OutOfMemory, Phase};
 use plain_places::places::is_crossed;
@@ -121,6 +121,7 @@ fn see_laws(head: &StackHead, turns: &[Turn], more: &[Turn])
     pumps_lower_work();
     drains_lower_work();
     pauses_add_nothing();
+    accepted_pauses_begin();
     drains_are_bounded();
     pauses_end_in_time();
 }

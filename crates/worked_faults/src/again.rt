@@ -5,7 +5,7 @@ ghost use Rattle.stack_book.specs.Open.{AreIdle};
 use crate::compare::{line_against, wide_sink};
 use driver_traits::{MiniportDriver, ProtocolDriver};
 use ndis_base::OutOfMemory;
-use ndis_cli::ndis_serial;
+use ndis_cli::{close_protocols, ndis_serial};
 use outside_io::MemorySource;
 use run_tools::words_of;
 use sample_adapters::RingAdapter;
@@ -85,6 +85,7 @@ pub fn lines(alloc: Global, script: &[u8], report: &[u8]) -> Result<String, OutO
     miniports.push(Box::new(alloc, RingAdapter::make(alloc)?)?)?;
     let mut protocols: Vec<Box<dyn ProtocolDriver>> = Vec::with_capacity(alloc, 1)?;
     protocols.push(Box::new(alloc, LogProtocol::make(alloc)?)?)?;
+    close_protocols(&mut protocols);
     let mut parts = Vec::with_capacity(alloc, 1)?;
     parts.push(StackParts {
         miniports,
