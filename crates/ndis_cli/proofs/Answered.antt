@@ -1,5 +1,5 @@
 -- What the bytes that were read say of the script.
-use Rattle.std.proofs.Common.{◌≡◌, ℕ, List, [], ◌∷◌, ◌++◌, Option, Some, None, Result, Ok, Err, true, false, refl, sym, ◌∙◌, ap, subst, arith, ◌<◌, length, map, drop, get_or, slice_set}
+use Rattle.std.proofs.Common.{◌≡◌, ℕ, List, [], ◌∷◌, ◌++◌, Option, Some, None, Result, Ok, Err, true, false, refl, sym, ◌∙◌, ap, subst, arith}
 use Rattle.std.specs.Prelude.{IfSome}
 use Rattle.std.proofs.lemmas.List.{append-nil}
 use Rattle.outside_io.specs.Edges.{before}
@@ -17,9 +17,8 @@ use Rattle.script_file.specs.Reads.{ReadsAs}
 use Rattle.script_runs.specs.Built.{is_built, IsRun}
 use Rattle.ndis_cli.specs.declared.top.Status.TheVariants as status
 use Rattle.home_laws.specs.Rows.{rows_of}
-use Rattle.script_runs.specs.Drivers.{ComeBack}
 use Rattle.stack_book.specs.Parts.{PartsView}
-use Rattle.ndis_cli.specs.Answers.{IsFaulty, no_script, not_built, IsFine, LacksFirst, LacksParts, Wrote}
+use Rattle.ndis_cli.specs.Answers.{IsFaulty, no_script, not_built, IsFine, LacksFirst, LacksParts, AreBack, Wrote}
 
 -- what was read to the end of input is all that was left
 all-read : (P : List ℕ → Type 0) (old new : Option (List ℕ)) (bytes : List ℕ) → old ≡ before bytes new → IfSome new (λ rest. rest ≡ []) → P bytes → IfSome old P
@@ -111,34 +110,17 @@ lacks old new bytes text script parts k is end same reads built e few = record {
   lacks = few;
 }
 
--- the first of the parts, and what is put in its place
-pub record FirstBack {X : Type 0} (view : X → PartsView) (xs ys : List X) (x y : X) : Type 0 where
-  pub handed : map view xs ≡ view x ∷ map view (drop 1 xs)
-  pub returned : map view ys ≡ view y ∷ map view (drop 1 xs)
-
-pub first_back : {X : Type 0} (view : X → PartsView) (xs ys : List X) (x y : X) → 0 < length xs → x ≡ get_or xs 0 x → ys ≡ slice_set xs 0 y → FirstBack view xs ys x y
-first_back view [] ys x y some was now = absurd (omega arith)
-first_back view (z ∷ zs) ys x y some was now = record {
-  handed = ap (λ w. view w ∷ map view zs) (sym was);
-  returned = ap (map view) now;
-}
-
 -- a report that was begun is of the script's run
-pub wrote : (How : Option (List ℕ) → Option (List ℕ) → List ℕ → Type 0) (old new held held' : Option (List ℕ)) (bytes text : List ℕ) (script : Script) (journals : List Written) (journal : Written) (first first' : PartsView) (others parts parts' : List PartsView)
+pub wrote : (How : Option (List ℕ) → Option (List ℕ) → List ℕ → Type 0) (old new held held' : Option (List ℕ)) (bytes text : List ℕ) (script : Script) (journals : List Written) (journal : Written) (parts parts' : List PartsView)
     → journals ≡ journal ∷ [] → old ≡ before bytes new → IfSome new (λ rest. rest ≡ []) → text ≡ bytes → ReadsAs text (Ok script)
-    → is_built script ≡ true → IsRun script journal.head journal.turns → parts ≡ first ∷ others → parts' ≡ first' ∷ others → ComeBack script.stacks (rows_of journal.turns) first first' → How held held' (report journals []) → Wrote How old parts parts' held held'
-wrote How old new held held' bytes text script journals journal first first' others parts parts' only is end same reads built ran handed returned back written =
+    → is_built script ≡ true → IsRun script journal.head journal.turns → AreBack script.stacks (rows_of journal.turns) parts parts' → How held held' (report journals []) → Wrote How old parts parts' held held'
+wrote How old new held held' bytes text script journals journal parts parts' only is end same reads built ran back written =
     record {
       script = script;
       is = all-read (λ b. Says b (Ok script)) old new bytes is end (subst (λ t. ReadsAs t (Ok script)) same reads);
       built = built;
       journal = journal;
       ran = ran;
-      first = first;
-      first' = first';
-      others = others;
-      handed = handed;
-      returned = returned;
       back = back;
       written = subst (λ js. How held held' (report js [])) only written;
     }

@@ -4,12 +4,13 @@ use Rattle.std.specs.Prelude.{IfSome}
 use Rattle.std.proofs.lemmas.List.Elements.{All-set}
 use Rattle.std.proofs.Math.Seq.{map-set_same}
 use Rattle.outside_io.specs.Edges.{before}
+use Rattle.journal_types.specs.declared.Row.{Row}
 use Rattle.script_types.specs.declared.Script.{Script}
 use Rattle.script_types.specs.declared.StackSetup.{StackSetup}
 use Rattle.script_file.specs.Reads.{ReadsAs}
 use Rattle.stack_book.specs.Parts.{PartsView}
 use Rattle.script_runs.specs.Drivers.{LacksDrivers, ComeBack}
-use Rattle.ndis_cli.specs.Answers.{IsOf, LacksFirst, AreBack}
+use Rattle.ndis_cli.specs.Answers.{LacksFirst, AreBack}
 
 -- what the first lacks is lacking
 pub lacks_first : {X : Type 0} (f : X → PartsView) (script : Script) (xs : List X) (x : X) → 0 < length xs → x ≡ slice_index_or xs 0 x → LacksDrivers script.stacks (f x) → LacksFirst script (map f xs)
@@ -31,12 +32,10 @@ first_same [] x x' some e same = absurd (omega (arith, some))
 first_same (y ∷ xs) x x' some e same = ap (λ z. z ∷ xs) (same ∙ e)
 
 -- the first came back
-pub first_back : {X : Type 0} (f : X → PartsView) (left : Option (List ℕ)) (script : Script) (xs : List X) (x x' : X) → IsOf left script → 0 < length xs → x ≡ slice_index_or xs 0 x → ComeBack script.stacks (f x) (f x')
-    → AreBack left (map f xs) (map f (slice_set xs 0 x'))
-first_back f left script [] x x' is some e back = absurd (omega (arith, some))
-first_back f left script (y ∷ xs) x x' is some e back = record {
-  script = script;
-  is = is;
+pub first_back : {X : Type 0} (f : X → PartsView) (stacks : List StackSetup) (rows : List Row) (xs : List X) (x x' : X) → 0 < length xs → x ≡ slice_index_or xs 0 x → ComeBack stacks rows (f x) (f x')
+    → AreBack stacks rows (map f xs) (map f (slice_set xs 0 x'))
+first_back f stacks rows [] x x' some e back = absurd (omega (arith, some))
+first_back f stacks rows (y ∷ xs) x x' some e back = record {
   first = f x;
   more = map f xs;
   handed = ap (λ z. f z ∷ map f xs) (sym e);

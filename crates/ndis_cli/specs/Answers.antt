@@ -3,7 +3,9 @@ use Rattle.std.specs.Prelude.{◌≡◌, ℕ, true, false, Bool, List, [], ◌�
 use Rattle.journal_types.specs.Written.{Written}
 use Rattle.outside_io.specs.Edges.{after}
 use Rattle.run_report.specs.Report.{report}
+use Rattle.journal_types.specs.declared.Row.{Row}
 use Rattle.script_types.specs.declared.Script.{Script}
+use Rattle.script_types.specs.declared.StackSetup.{StackSetup}
 use Rattle.script_types.specs.declared.ScriptPlace.{ScriptPlace}
 use Rattle.script_types.specs.declared.ScriptPlace.TheVariants as place
 use Rattle.script_types.specs.declared.ScriptCause.{ScriptCause}
@@ -30,6 +32,16 @@ pub data IsFaulty (bytes : List ℕ) (at : ScriptPlace) (why : ScriptCause) : Ty
 abbrev pub Adds : Option (List ℕ) → Option (List ℕ) → List ℕ → Type 0
 Adds held held' text = held' ≡ after held text
 
+-- the drivers of the first of the parts came back after a run with these rows, and the other parts are as they
+-- were
+pub record AreBack (stacks : List StackSetup) (rows : List Row) (parts parts' : List PartsView) : Type 0 where
+  pub first : PartsView
+  pub more : List PartsView
+  pub handed : parts ≡ first ∷ more
+  pub now : PartsView
+  pub returned : parts' ≡ now ∷ more
+  pub back : ComeBack stacks rows first now
+
 -- the bytes are a script that was run over the first of the parts: its journal is of its stack, sound, and as
 -- the laws and the script ask; the stack's drivers came back and did what its rows say; and what was written is
 -- the report of that journal, or, with AddsPrefix, a prefix of it
@@ -39,12 +51,7 @@ pub record Wrote (How : Option (List ℕ) → Option (List ℕ) → List ℕ →
   pub built : is_built script ≡ true
   pub journal : Written
   pub ran : IsRun script journal.head journal.turns
-  pub first : PartsView
-  pub first' : PartsView
-  pub others : List PartsView
-  pub handed : parts ≡ first ∷ others
-  pub returned : parts' ≡ first' ∷ others
-  pub back : ComeBack script.stacks (rows_of journal.turns) first first'
+  pub back : AreBack script.stacks (rows_of journal.turns) parts parts'
   pub written : How held held' (report (journal ∷ []) [])
 
 -- the bytes are a script that can be run
