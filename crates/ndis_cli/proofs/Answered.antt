@@ -1,6 +1,6 @@
 -- What the bytes that were read say of the script.
 use Rattle.std.proofs.Common.{◌≡◌, ℕ, List, [], ◌∷◌, ◌++◌, Option, Some, None, Result, Ok, Err, true, false, refl, sym, ◌∙◌, ap, subst, arith}
-use Rattle.std.specs.Prelude.{IfSome}
+use Rattle.std.specs.Prelude.{IfSome, IsTrue}
 use Rattle.std.proofs.lemmas.List.{append-nil}
 use Rattle.outside_io.specs.Edges.{before}
 use Rattle.journal_types.specs.Written.{Written}
@@ -15,10 +15,11 @@ use Rattle.script_types.specs.declared.ScriptFault.TheVariants as fault
 use Rattle.script_forms.specs.Script.{Says, too_long, not_json, json, script_in}
 use Rattle.script_file.specs.Reads.{ReadsAs}
 use Rattle.script_runs.specs.Built.{is_built, IsRun}
+use Rattle.ndis_cli.specs.declared.top.Status.{Status}
 use Rattle.ndis_cli.specs.declared.top.Status.TheVariants as status
 use Rattle.home_laws.specs.Rows.{rows_of}
 use Rattle.stack_book.specs.Parts.{PartsView}
-use Rattle.ndis_cli.specs.Answers.{IsFaulty, no_script, not_built, IsFine, LacksFirst, LacksParts, AreBack, Wrote}
+use Rattle.ndis_cli.specs.Answers.{IsFaulty, no_script, not_built, IsFine, LacksFirst, LacksParts, AreBack, Replayed, Wrote, IsOf, IsDone, IsWanting, is_early, ends_reading, ends_replay}
 
 -- what was read to the end of input is all that was left
 all-read : (P : List ℕ → Type 0) (old new : Option (List ℕ)) (bytes : List ℕ) → old ≡ before bytes new → IfSome new (λ rest. rest ≡ []) → P bytes → IfSome old P
@@ -96,31 +97,103 @@ pub same-script : (old new : Option (List ℕ)) (bytes text : List ℕ) (script 
 same-script old new bytes text script is end same reads f =
     same-ok f.script script (one bytes (Ok f.script) (Ok script) (fine old new bytes is end f) (subst (λ t. ReadsAs t (Ok script)) same reads))
 
-same-stack : (n k : ℕ) → status.NoParts n ≡ status.NoParts k → n ≡ k
-same-stack n k e = cc
+-- what was read is a script that can be run
+pub is-of : (old new : Option (List ℕ)) (bytes text : List ℕ) (script : Script) → old ≡ before bytes new → IfSome new (λ rest. rest ≡ []) → text ≡ bytes → ReadsAs text (Ok script) → IsOf old script
+is-of old new bytes text script is end same reads = all-read (λ b. Says b (Ok script)) old new bytes is end (subst (λ t. ReadsAs t (Ok script)) same reads)
+
+never : false ≡ true → ⊥
+never e = cc
+
+-- how a call ends that ends while its script is read
+pub no-usage : (s : Status) → IsTrue (ends_reading s) → s ≡ status.Usage → ⊥
+no-usage s ends e = never (subst (λ x. IsTrue (ends_reading x)) e ends)
+
+pub no-parts : (s : Status) (k : ℕ) → IsTrue (ends_reading s) → s ≡ status.NoParts k → ⊥
+no-parts s k ends e = never (subst (λ x. IsTrue (ends_reading x)) e ends)
+
+pub no-done : (s : Status) → IsTrue (ends_reading s) → s ≡ status.Done → ⊥
+no-done s ends e = never (subst (λ x. IsTrue (ends_reading x)) e ends)
+
+pub no-write : (s : Status) → IsTrue (ends_reading s) → s ≡ status.WriteFault → ⊥
+no-write s ends e = never (subst (λ x. IsTrue (ends_reading x)) e ends)
+
+-- it is by want of memory, where the text is a script that can be run and nothing failed
+pub out-of-memory : (s : Status) (P Q : Type 0) → IsTrue (ends_reading s) → (s ≡ status.ReadFault → P) → ((at : ScriptPlace) (why : ScriptCause) → s ≡ status.BadScript at why → Q → ⊥) → (P → ⊥) → Q → s ≡ status.Memory
+out-of-memory status.Done P Q ends fault bad none told = absurd (never ends)
+out-of-memory status.Usage P Q ends fault bad none told = absurd (never ends)
+out-of-memory (status.BadScript at why) P Q ends fault bad none told = absurd (bad at why refl told)
+out-of-memory status.ReadFault P Q ends fault bad none told = absurd (none (fault refl))
+out-of-memory status.WriteFault P Q ends fault bad none told = absurd (never ends)
+out-of-memory status.Memory P Q ends fault bad none told = refl
+out-of-memory (status.NoParts k) P Q ends fault bad none told = absurd (never ends)
+
+pub is-done : (s : Status) → s ≡ status.Memory → IsDone s
+is-done s e = subst IsDone (sym e) tt
+
+pub is-wanting : (s : Status) → s ≡ status.Memory → IsWanting s
+is-wanting s e = subst IsWanting (sym e) tt
+
+-- how a call ends that ends later
+pub not-usage : (s : Status) → IsTrue (ends_replay s) → s ≡ status.Usage → ⊥
+not-usage s ends e = never (subst (λ x. IsTrue (ends_replay x)) e ends)
+
+pub not-bad : (s : Status) (at : ScriptPlace) (why : ScriptCause) → IsTrue (ends_replay s) → s ≡ status.BadScript at why → ⊥
+not-bad s at why ends e = never (subst (λ x. IsTrue (ends_replay x)) e ends)
+
+pub not-read-fault : (s : Status) → IsTrue (ends_replay s) → s ≡ status.ReadFault → ⊥
+not-read-fault s ends e = never (subst (λ x. IsTrue (ends_replay x)) e ends)
+
+-- and early: then by drivers that are wanting
+pub early-by : (s : Status) (P : Type 0) → IsTrue (ends_replay s) → IsTrue (is_early s) → ((k : ℕ) → s ≡ status.NoParts k → P) → P
+early-by status.Done P ends early of = absurd (never early)
+early-by status.Usage P ends early of = absurd (never ends)
+early-by (status.BadScript at why) P ends early of = absurd (never ends)
+early-by status.ReadFault P ends early of = absurd (never ends)
+early-by status.WriteFault P ends early of = absurd (never early)
+early-by status.Memory P ends early of = absurd (never early)
+early-by (status.NoParts k) P ends early of = of k refl
+
+-- a status by which drivers are wanting, or memory ran out, ends a replay
+pub ends-wanting : (s : Status) → IsWanting s → IsTrue (ends_replay s)
+ends-wanting status.Done w = absurd w
+ends-wanting status.Usage w = absurd w
+ends-wanting (status.BadScript at why) w = absurd w
+ends-wanting status.ReadFault w = absurd w
+ends-wanting status.WriteFault w = absurd w
+ends-wanting status.Memory w = refl
+ends-wanting (status.NoParts k) w = refl
+
+pub stack-wanting : (s : Status) (k : ℕ) → IsWanting s → s ≡ status.NoParts k → k ≡ 0
+stack-wanting s k w e = subst IsWanting e w
+
+pub done-wanting : (s : Status) → IsWanting s → s ≡ status.Done → ⊥
+done-wanting s w e = subst IsWanting e w
+
+pub fault-wanting : (s : Status) → IsWanting s → s ≡ status.WriteFault → ⊥
+fault-wanting s w e = subst IsWanting e w
+
+pub done-enough : (s : Status) (P : Type 0) → IsWanting s → ((k : ℕ) → s ≡ status.NoParts k → P) → (P → ⊥) → IsDone s
+done-enough status.Done P w of none = absurd w
+done-enough status.Usage P w of none = absurd w
+done-enough (status.BadScript at why) P w of none = absurd w
+done-enough status.ReadFault P w of none = absurd w
+done-enough status.WriteFault P w of none = absurd w
+done-enough status.Memory P w of none = tt
+done-enough (status.NoParts k) P w of none = absurd (none (of k refl))
 
 -- drivers are wanting for the script that was read
-pub lacks : (old new : Option (List ℕ)) (bytes text : List ℕ) (script : Script) (parts : List PartsView) (k : ℕ) → old ≡ before bytes new → IfSome new (λ rest. rest ≡ []) → text ≡ bytes → ReadsAs text (Ok script)
-    → is_built script ≡ true → status.NoParts 0 ≡ status.NoParts k → LacksFirst script parts → LacksParts old parts k
-lacks old new bytes text script parts k is end same reads built e few = record {
-  script = script;
-  is = all-read (λ b. Says b (Ok script)) old new bytes is end (subst (λ t. ReadsAs t (Ok script)) same reads);
-  built = built;
-  only = sym (same-stack 0 k e);
-  lacks = few;
-}
+pub lacks : (old : Option (List ℕ)) (script : Script) (parts : List PartsView) (k : ℕ) → IsOf old script → is_built script ≡ true → (k ≡ 0) × LacksFirst script parts → LacksParts old parts k
+lacks old script parts k is built few = record { script = script; is = is; built = built; only = few.0; lacks = few.1 }
 
--- a report that was begun is of the script's run
-pub wrote : (How : Option (List ℕ) → Option (List ℕ) → List ℕ → Type 0) (old new held held' : Option (List ℕ)) (bytes text : List ℕ) (script : Script) (journals : List Written) (journal : Written) (parts parts' : List PartsView)
-    → journals ≡ journal ∷ [] → old ≡ before bytes new → IfSome new (λ rest. rest ≡ []) → text ≡ bytes → ReadsAs text (Ok script)
-    → is_built script ≡ true → IsRun script journal.head journal.turns → AreBack script.stacks (rows_of journal.turns) parts parts' → How held held' (report journals []) → Wrote How old parts parts' held held'
-wrote How old new held held' bytes text script journals journal parts parts' only is end same reads built ran back written =
-    record {
-      script = script;
-      is = all-read (λ b. Says b (Ok script)) old new bytes is end (subst (λ t. ReadsAs t (Ok script)) same reads);
-      built = built;
-      journal = journal;
-      ran = ran;
-      back = back;
-      written = subst (λ js. How held held' (report js [])) only written;
-    }
+-- the report of a journal was begun
+pub replayed : (How : Option (List ℕ) → Option (List ℕ) → List ℕ → Type 0) (held held' : Option (List ℕ)) (script : Script) (journals : List Written) (journal : Written) (parts parts' : List PartsView)
+    → journals ≡ journal ∷ [] → IsRun script journal.head journal.turns → AreBack script.stacks (rows_of journal.turns) parts parts' → How held held' (report journals []) → Replayed How script parts parts' held held'
+replayed How held held' script journals journal parts parts' only ran back written =
+    record { journal = journal; ran = ran; back = back; written = subst (λ js. How held held' (report js [])) only written }
+
+pub wrote : (How : Option (List ℕ) → Option (List ℕ) → List ℕ → Type 0) (old held held' : Option (List ℕ)) (script : Script) (parts parts' : List PartsView) → IsOf old script → is_built script ≡ true → Replayed How script parts parts' held held' → Wrote How old parts parts' held held'
+wrote How old held held' script parts parts' is built r = record { script = script; is = is; built = built; replayed = r }
+
+-- what holds of the one script holds of what was read
+pub of-same : (P : Script → Type 0) (a b : Script) → a ≡ b → P a → P b
+of-same P a b e p = subst P e p

@@ -1,13 +1,10 @@
 -- The first of the parts.
-use Rattle.std.proofs.Common.{◌≡◌, ℕ, ◌<◌, List, [], ◌∷◌, ◌++◌, Option, Result, Ok, map, length, slice_index_or, slice_set, All, refl, sym, ap, subst, ◌∙◌, arith}
-use Rattle.std.specs.Prelude.{IfSome}
-use Rattle.std.proofs.lemmas.List.Elements.{All-set}
-use Rattle.std.proofs.Math.Seq.{map-set_same}
-use Rattle.outside_io.specs.Edges.{before}
+use Rattle.std.proofs.Common.{◌≡◌, ◌<◌, List, [], ◌∷◌, map, length, slice_index_or, slice_set, All, refl, sym, ap, subst, ◌∙◌, arith}
+use Rattle.std.proofs.lemmas.List.Elements.{All-cons, All-head, All-tail}
 use Rattle.journal_types.specs.declared.Row.{Row}
 use Rattle.script_types.specs.declared.Script.{Script}
 use Rattle.script_types.specs.declared.StackSetup.{StackSetup}
-use Rattle.script_file.specs.Reads.{ReadsAs}
+use Rattle.stack_book.specs.Open.{AreIdle}
 use Rattle.stack_book.specs.Parts.{PartsView}
 use Rattle.script_runs.specs.Drivers.{LacksDrivers, ComeBack}
 use Rattle.ndis_cli.specs.Answers.{LacksFirst, AreBack}
@@ -30,6 +27,15 @@ none_first f script (x ∷ xs) none = absurd (omega (arith, none))
 pub first_same : {X : Type 0} (xs : List X) (x x' : X) → 0 < length xs → x ≡ slice_index_or xs 0 x → x' ≡ x → slice_set xs 0 x' ≡ xs
 first_same [] x x' some e same = absurd (omega (arith, some))
 first_same (y ∷ xs) x x' some e same = ap (λ z. z ∷ xs) (same ∙ e)
+
+-- the first is idle where all are, and all are where an idle one takes its place
+pub idle_first : {X : Type 0} (f : X → PartsView) (xs : List X) (x : X) → 0 < length xs → x ≡ slice_index_or xs 0 x → All AreIdle (map f xs) → AreIdle (f x)
+idle_first f [] x some e all = absurd (omega (arith, some))
+idle_first f (y ∷ xs) x some e all = subst (λ z. AreIdle (f z)) (sym e) (All-head AreIdle (f y) (map f xs) all)
+
+pub idle_set : {X : Type 0} (f : X → PartsView) (xs : List X) (x : X) → AreIdle (f x) → All AreIdle (map f xs) → All AreIdle (map f (slice_set xs 0 x))
+idle_set f [] x idle all = all
+idle_set f (y ∷ xs) x idle all = All-cons AreIdle (f x) (map f xs) idle (All-tail AreIdle (f y) (map f xs) all)
 
 -- the first came back
 pub first_back : {X : Type 0} (f : X → PartsView) (stacks : List StackSetup) (rows : List Row) (xs : List X) (x x' : X) → 0 < length xs → x ≡ slice_index_or xs 0 x → ComeBack stacks rows (f x) (f x')

@@ -17,7 +17,7 @@ use Rattle.stack_book.specs.Parts.{PartsView}
 use Rattle.script_runs.specs.Built.{is_built, IsRun}
 use Rattle.script_runs.specs.Drivers.{LacksDrivers, ComeBack}
 use Rattle.ndis_cli.specs.declared.top.Status.{Status}
-use Rattle.ndis_cli.specs.declared.top.Status.TheVariants.{Done, Usage, BadScript, ReadFault, Memory, NoParts}
+use Rattle.ndis_cli.specs.declared.top.Status.TheVariants.{Done, Usage, BadScript, ReadFault, WriteFault, Memory, NoParts}
 
 -- the bytes are the text of this script, where they are told
 abbrev pub IsOf : Option (List ℕ) → Script → Type 0
@@ -42,17 +42,21 @@ pub record AreBack (stacks : List StackSetup) (rows : List Row) (parts parts' : 
   pub returned : parts' ≡ now ∷ more
   pub back : ComeBack stacks rows first now
 
--- the bytes are a script that was run over the first of the parts: its journal is of its stack, sound, and as
--- the laws and the script ask; the stack's drivers came back and did what its rows say; and what was written is
--- the report of that journal, or, with AddsPrefix, a prefix of it
-pub record Wrote (How : Option (List ℕ) → Option (List ℕ) → List ℕ → Type 0) (left : Option (List ℕ)) (parts parts' : List PartsView) (held held' : Option (List ℕ)) : Type 0 where
-  pub script : Script
-  pub is : IsOf left script
-  pub built : is_built script ≡ true
+-- a script was run over the first of the parts: its journal is of its stack, sound, and as the laws and the
+-- script ask; the stack's drivers came back and did what its rows say; and what was written is the report of
+-- that journal, or, with AddsPrefix, a prefix of it
+pub record Replayed (How : Option (List ℕ) → Option (List ℕ) → List ℕ → Type 0) (script : Script) (parts parts' : List PartsView) (held held' : Option (List ℕ)) : Type 0 where
   pub journal : Written
   pub ran : IsRun script journal.head journal.turns
   pub back : AreBack script.stacks (rows_of journal.turns) parts parts'
   pub written : How held held' (report (journal ∷ []) [])
+
+-- the bytes are a script that can be run, and it was
+pub record Wrote (How : Option (List ℕ) → Option (List ℕ) → List ℕ → Type 0) (left : Option (List ℕ)) (parts parts' : List PartsView) (held held' : Option (List ℕ)) : Type 0 where
+  pub script : Script
+  pub is : IsOf left script
+  pub built : is_built script ≡ true
+  pub replayed : Replayed How script parts parts' held held'
 
 -- the bytes are a script that can be run
 pub record IsFine (left : Option (List ℕ)) : Type 0 where
@@ -82,6 +86,20 @@ is_early (BadScript at why) = true
 is_early ReadFault = true
 is_early (NoParts stack) = true
 is_early _ = false
+
+-- the call ends while its script is read, or while it is run and its report written
+abbrev pub ends_reading : Status → Bool
+ends_reading (BadScript at why) = true
+ends_reading ReadFault = true
+ends_reading Memory = true
+ends_reading _ = false
+
+abbrev pub ends_replay : Status → Bool
+ends_replay Done = true
+ends_replay WriteFault = true
+ends_replay Memory = true
+ends_replay (NoParts stack) = true
+ends_replay _ = false
 
 -- done, or memory ran out
 abbrev pub IsDone : Status → Type 0

@@ -8,7 +8,7 @@ ghost use Rattle.stack_book.specs.Open.{AreIdle};
 ghost use Rattle.script_runs.specs.Built.{is_built, IsRun};
 ghost use Rattle.script_runs.specs.Drivers.{LacksDrivers, ComeBack};
 ghost use Rattle.ndis_cli.specs.Words as form;
-ghost use Rattle.ndis_cli.specs.Answers.{IsFaulty, Adds, Wrote, IsFine, LacksFirst, LacksParts, is_early, IsDone, IsWanting};
+ghost use Rattle.ndis_cli.specs.Answers.{IsOf, IsFaulty, Adds, AreBack, Replayed, Wrote, IsFine, LacksFirst, LacksParts, is_early, ends_reading, ends_replay, IsDone, IsWanting};
 
 use crate::words::is_form;
 use journal_types::Journal;
@@ -17,8 +17,8 @@ use run_report::{ReportFault, write_report};
 use script_file::read_script;
 use script_runs::{RunFault, is_built, run_script};
 use script_types::{Script, ScriptCause, ScriptFault, ScriptPlace};
-use stack_book::parts::Handed;
 use stack_book::StackParts;
+use stack_book::parts::Handed;
 use std::alloc::Global;
 
 /// The most bytes that a script has.
@@ -58,7 +58,7 @@ pub fn ndis_serial<S: Source, K: Sink>(
     sink: &mut K,
     parts: &mut Vec<StackParts>,
 ) -> Status
-    requires idle { All (λ p. AreIdle (⟦<StackParts as Handed>⟧.handed p)) parts.old.items }
+    requires idle { All AreIdle (map (λ p. ⟦<StackParts as Handed>⟧.handed p) parts.old.items) }
     // Usage, exactly where the words are no form; then nothing is read.
     ensures usage { (result ≡ Status.Usage) ↔ (form.is_form (map (λ w. string_bytes w) words.now) ≡ false) }
     ensures unread { result ≡ Status.Usage → source.new ≡ source.old }
@@ -79,7 +79,7 @@ pub fn ndis_serial<S: Source, K: Sink>(
     ensures silent { IsTrue (is_early result) → K.holds sink.new ≡ K.holds sink.old }
     ensures kept { IsTrue (is_early result) → parts.new.items ≡ parts.old.items }
     // Whatever drivers come back may be handed in again.
-    ensures idle { All (λ p. AreIdle (⟦<StackParts as Handed>⟧.handed p)) parts.new.items }
+    ensures idle { All AreIdle (map (λ p. ⟦<StackParts as Handed>⟧.handed p) parts.new.items) }
     ensures shelves { map (λ p. p.shelf) parts.new.items ≡ map (λ p. p.shelf) parts.old.items }
     // Where nothing is amiss it is done, or drivers are wanting, unless memory runs out.
     ensures complete { form.is_form (map (λ w. string_bytes w) words.now) ≢ false → (fine : IsFine (S.left source.old)) → ¬ LacksFirst fine.script (map (λ p. ⟦<StackParts as Handed>⟧.handed p) parts.old.items) → ¬ Rose (S.faults source.old) (S.faults source.new) → ¬ Rose (K.faults sink.old) (K.faults sink.new) → IsDone result }
@@ -88,40 +88,102 @@ pub fn ndis_serial<S: Source, K: Sink>(
     if !is_form(words) {
         return Status::Usage;
     }
+    match read_built(alloc, source) {
+        Ok(script) => replay(alloc, &script, sink, parts),
+        Err(status) => status,
+    }
+}
+
+/// Reads a script that can be run, or tells why there is none.
+fn read_built<S: Source>(alloc: Global, source: &mut S) -> Result<Script, Status>
+    ensures script { IfOk result (λ script. IsOf (S.left source.old) script) }
+    ensures built { IfOk result (λ script. is_built script ≡ true) }
+    ensures only { IfOk result (λ script. (fine : IsFine (S.left source.old)) → fine.script ≡ script) }
+    ensures read { OnOk result (IfSome (S.left source.new) (λ rest. rest ≡ [])) }
+    ensures early { IfErr result (λ status. IsTrue (ends_reading status)) }
+    ensures fault { IfErr result (λ status. status ≡ Status.ReadFault → Rose (S.faults source.old) (S.faults source.new)) }
+    ensures bad { IfErr result (λ status. (at : ScriptPlace) (why : ScriptCause) → status ≡ Status.BadScript at why → IfSome (S.left source.old) (λ bytes. IsFaulty bytes at why)) }
+    ensures unfit { IfErr result (λ status. (at : ScriptPlace) (why : ScriptCause) → status ≡ Status.BadScript at why → ¬ IsFine (S.left source.old)) }
+{
     let bytes = match read_all(alloc, source, MAX_SCRIPT) {
         Ok(bytes) => bytes,
-        Err(ReadRefusal::Failed) => return Status::ReadFault,
+        Err(ReadRefusal::Failed) => return Err(Status::ReadFault),
         Err(ReadRefusal::TooLong) => {
-            return Status::BadScript {
+            return Err(Status::BadScript {
                 place: ScriptPlace::Whole,
                 cause: ScriptCause::TooLong,
-            };
+            });
         }
-        Err(ReadRefusal::Memory) => return Status::Memory,
+        Err(ReadRefusal::Memory) => return Err(Status::Memory),
     };
     let script = match read_script(alloc, bytes.as_slice()) {
         Ok(script) => script,
-        Err(ScriptFault::Bad { place, cause }) => return Status::BadScript { place, cause },
-        Err(ScriptFault::Memory) => return Status::Memory,
+        Err(ScriptFault::Bad { place, cause }) => return Err(Status::BadScript { place, cause }),
+        Err(ScriptFault::Memory) => return Err(Status::Memory),
     };
     if !is_built(&script) {
-        return Status::BadScript {
+        return Err(Status::BadScript {
             place: ScriptPlace::Whole,
             cause: ScriptCause::NotBuilt,
-        };
+        });
     }
-    if parts.is_empty() {
-        return Status::NoParts { stack: 0 };
-    }
-    let journal = match run_over(alloc, &script, &mut parts[0]) {
+    Ok(script)
+}
+
+/// Runs a script over the first of the parts and writes its report.
+fn replay<K: Sink>(
+    alloc: Global,
+    script: &Script,
+    sink: &mut K,
+    parts: &mut Vec<StackParts>,
+) -> Status
+    requires built { is_built script.now ≡ true }
+    requires idle { All AreIdle (map (λ p. ⟦<StackParts as Handed>⟧.handed p) parts.old.items) }
+    ensures late { IsTrue (ends_replay result) }
+    ensures lacks { (k : ℕ) → result ≡ Status.NoParts k → (k ≡ 0) × LacksFirst script.now (map (λ p. ⟦<StackParts as Handed>⟧.handed p) parts.old.items) }
+    ensures fault { result ≡ Status.WriteFault → Rose (K.faults sink.old) (K.faults sink.new) }
+    ensures done { result ≡ Status.Done → Replayed Adds script.now (map (λ p. ⟦<StackParts as Handed>⟧.handed p) parts.old.items) (map (λ p. ⟦<StackParts as Handed>⟧.handed p) parts.new.items) (K.holds sink.old) (K.holds sink.new) }
+    ensures cut { result ≡ Status.WriteFault → Replayed AddsPrefix script.now (map (λ p. ⟦<StackParts as Handed>⟧.handed p) parts.old.items) (map (λ p. ⟦<StackParts as Handed>⟧.handed p) parts.new.items) (K.holds sink.old) (K.holds sink.new) }
+    ensures memory { result ≡ Status.Memory → (K.holds sink.new ≡ K.holds sink.old) ⊎ Replayed AddsPrefix script.now (map (λ p. ⟦<StackParts as Handed>⟧.handed p) parts.old.items) (map (λ p. ⟦<StackParts as Handed>⟧.handed p) parts.new.items) (K.holds sink.old) (K.holds sink.new) }
+    ensures silent { (k : ℕ) → result ≡ Status.NoParts k → K.holds sink.new ≡ K.holds sink.old }
+    ensures kept { (k : ℕ) → result ≡ Status.NoParts k → parts.new.items ≡ parts.old.items }
+    ensures idle { All AreIdle (map (λ p. ⟦<StackParts as Handed>⟧.handed p) parts.new.items) }
+    ensures shelves { map (λ p. p.shelf) parts.new.items ≡ map (λ p. p.shelf) parts.old.items }
+    ensures complete { ¬ LacksFirst script.now (map (λ p. ⟦<StackParts as Handed>⟧.handed p) parts.old.items) → ¬ Rose (K.faults sink.old) (K.faults sink.new) → IsDone result }
+    ensures lacking { LacksFirst script.now (map (λ p. ⟦<StackParts as Handed>⟧.handed p) parts.old.items) → IsWanting result }
+{
+    let journal = match run_first(alloc, script, parts) {
         Ok(journal) => journal,
-        Err(RunFault::NoParts) => return Status::NoParts { stack: 0 },
-        Err(RunFault::Memory | RunFault::Lost) => return Status::Memory,
+        Err(status) => return status,
     };
     match write_report(alloc, sink, std::slice::from_ref(&journal), &[]) {
         Ok(()) => Status::Done,
         Err(ReportFault::Failed) => Status::WriteFault,
         Err(ReportFault::Memory) => Status::Memory,
+    }
+}
+
+/// Runs a script over the first of the parts, where there is one.
+fn run_first(alloc: Global, script: &Script, parts: &mut Vec<StackParts>) -> Result<Journal, Status>
+    requires built { is_built script.now ≡ true }
+    requires idle { All AreIdle (map (λ p. ⟦<StackParts as Handed>⟧.handed p) parts.old.items) }
+    ensures run { IfOk result (λ journal. IsRun script.now journal.head journal.turns) }
+    ensures back { IfOk result (λ journal. AreBack script.now.stacks (rows_of journal.turns) (map (λ p. ⟦<StackParts as Handed>⟧.handed p) parts.old.items) (map (λ p. ⟦<StackParts as Handed>⟧.handed p) parts.new.items)) }
+    ensures enough { OnOk result (¬ LacksFirst script.now (map (λ p. ⟦<StackParts as Handed>⟧.handed p) parts.old.items)) }
+    ensures wanting { IfErr result (λ status. IsWanting status) }
+    ensures lacks { IfErr result (λ status. (k : ℕ) → status ≡ Status.NoParts k → LacksFirst script.now (map (λ p. ⟦<StackParts as Handed>⟧.handed p) parts.old.items)) }
+    ensures kept { IfErr result (λ status. (k : ℕ) → status ≡ Status.NoParts k → parts.new.items ≡ parts.old.items) }
+    ensures idle { All AreIdle (map (λ p. ⟦<StackParts as Handed>⟧.handed p) parts.new.items) }
+    ensures shelves { map (λ p. p.shelf) parts.new.items ≡ map (λ p. p.shelf) parts.old.items }
+{
+    if parts.is_empty() {
+        return Err(Status::NoParts { stack: 0 });
+    }
+    match run_over(alloc, script, &mut parts[0]) {
+        Ok(journal) => Ok(journal),
+        Err(RunFault::NoParts) => Err(Status::NoParts { stack: 0 }),
+        Err(RunFault::Memory) => Err(Status::Memory),
+        Err(RunFault::Lost) => Err(Status::Memory),
     }
 }
 

@@ -4,11 +4,12 @@
 
 use driver_traits::{MiniportDriver, ProtocolDriver};
 use ndis_base::OutOfMemory;
-use ndis_cli::{Status, close_protocols, ndis_serial};
+use ndis_cli::{Status, ndis_serial};
 use outside_io::{MemorySink, MemorySource};
 use sample_adapters::RingAdapter;
 use sample_protocols::LogProtocol;
 use stack_book::StackParts;
+use stack_book::calls::close_all;
 use std::alloc::Global;
 
 /// Which drivers are handed in: a ring adapter or none, and so many log protocols.
@@ -49,7 +50,7 @@ pub fn run_over(
     for _ in 0..drivers.protocols {
         protocols.push(Box::new(alloc, LogProtocol::make(alloc)?)?)?;
     }
-    close_protocols(&mut protocols);
+    close_all(&mut protocols);
     let mut parts = Vec::with_capacity(alloc, 1)?;
     parts.push(StackParts {
         miniports,

@@ -1,16 +1,17 @@
 //! Two runs over the same drivers.
-ghost use Rattle.std.specs.Prelude.{All};
+ghost use Rattle.std.specs.Prelude.{All, map};
 ghost use Rattle.stack_book.specs.Open.{AreIdle};
 
 use crate::compare::{line_against, wide_sink};
 use driver_traits::{MiniportDriver, ProtocolDriver};
 use ndis_base::OutOfMemory;
-use ndis_cli::{close_protocols, ndis_serial};
+use ndis_cli::ndis_serial;
 use outside_io::MemorySource;
 use run_tools::words_of;
 use sample_adapters::RingAdapter;
 use sample_protocols::LogProtocol;
 use stack_book::StackParts;
+use stack_book::calls::close_all;
 use stack_book::parts::Handed;
 use std::alloc::Global;
 
@@ -67,8 +68,8 @@ fn lines_of_run(
     report: &[u8],
     parts: &mut Vec<StackParts>,
 ) -> Result<String, OutOfMemory>
-    requires idle { All (λ p. AreIdle (⟦<StackParts as Handed>⟧.handed p)) parts.old.items }
-    ensures idle { All (λ p. AreIdle (⟦<StackParts as Handed>⟧.handed p)) parts.new.items }
+    requires idle { All AreIdle (map (λ p. ⟦<StackParts as Handed>⟧.handed p) parts.old.items) }
+    ensures idle { All AreIdle (map (λ p. ⟦<StackParts as Handed>⟧.handed p) parts.new.items) }
 {
     let words = words_of(alloc, &["replay"])?;
     let mut source = MemorySource::make(Vec::from_slice(alloc, script)?, Vec::new(alloc));
@@ -85,7 +86,7 @@ pub fn lines(alloc: Global, script: &[u8], report: &[u8]) -> Result<String, OutO
     miniports.push(Box::new(alloc, RingAdapter::make(alloc)?)?)?;
     let mut protocols: Vec<Box<dyn ProtocolDriver>> = Vec::with_capacity(alloc, 1)?;
     protocols.push(Box::new(alloc, LogProtocol::make(alloc)?)?)?;
-    close_protocols(&mut protocols);
+    close_all(&mut protocols);
     let mut parts = Vec::with_capacity(alloc, 1)?;
     parts.push(StackParts {
         miniports,
