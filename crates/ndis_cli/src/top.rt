@@ -4,7 +4,8 @@ ghost use Rattle.outside_io.specs.Edges.{Rose, AddsPrefix};
 ghost use Rattle.script_types.specs.declared.ScriptPlace.{ScriptPlace};
 ghost use Rattle.script_types.specs.declared.ScriptCause.{ScriptCause};
 ghost use Rattle.home_laws.specs.Rows.{rows_of};
-ghost use Rattle.stack_book.specs.Open.{AreIdle};
+ghost use Rattle.stack_book.specs.Open.{AreIdle, IsHaltedDriver};
+ghost use Rattle.stack_book.specs.Stands.{IsClosed};
 ghost use Rattle.script_runs.specs.Built.{is_built, IsRun};
 ghost use Rattle.script_runs.specs.Drivers.{LacksDrivers, ComeBack};
 ghost use Rattle.ndis_cli.specs.Words as form;
@@ -58,7 +59,8 @@ pub fn ndis_serial<S: Source, K: Sink>(
     sink: &mut K,
     parts: &mut Vec<StackParts>,
 ) -> Status
-    requires idle { All AreIdle (map (λ p. ⟦<StackParts as Handed>⟧.handed p) parts.old.items) }
+    requires halted { All (λ p. All IsHaltedDriver (⟦<StackParts as Handed>⟧.handed p).miniports) parts.old.items }
+    requires closed { All (λ p. All IsClosed (⟦<StackParts as Handed>⟧.handed p).protocols) parts.old.items }
     // Usage, exactly where the words are no form; then nothing is read.
     ensures usage { (result ≡ Status.Usage) ↔ (form.is_form (map (λ w. string_bytes w) words.now) ≡ false) }
     ensures unread { result ≡ Status.Usage → source.new ≡ source.old }
@@ -79,7 +81,8 @@ pub fn ndis_serial<S: Source, K: Sink>(
     ensures silent { IsTrue (is_early result) → K.holds sink.new ≡ K.holds sink.old }
     ensures kept { IsTrue (is_early result) → parts.new.items ≡ parts.old.items }
     // Whatever drivers come back may be handed in again.
-    ensures idle { All AreIdle (map (λ p. ⟦<StackParts as Handed>⟧.handed p) parts.new.items) }
+    ensures halted { All (λ p. All IsHaltedDriver (⟦<StackParts as Handed>⟧.handed p).miniports) parts.new.items }
+    ensures closed { All (λ p. All IsClosed (⟦<StackParts as Handed>⟧.handed p).protocols) parts.new.items }
     ensures shelves { map (λ p. p.shelf) parts.new.items ≡ map (λ p. p.shelf) parts.old.items }
     // Where nothing is amiss it is done, or drivers are wanting, unless memory runs out.
     ensures complete { form.is_form (map (λ w. string_bytes w) words.now) ≢ false → (fine : IsFine (S.left source.old)) → ¬ LacksFirst fine.script (map (λ p. ⟦<StackParts as Handed>⟧.handed p) parts.old.items) → ¬ Rose (S.faults source.old) (S.faults source.new) → ¬ Rose (K.faults sink.old) (K.faults sink.new) → IsDone result }

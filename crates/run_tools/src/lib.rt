@@ -34,20 +34,18 @@ pub fn words_of(alloc: Global, texts: &[&str]) -> Result<Vec<String>, OutOfMemor
     Ok(words)
 }
 
-/// Makes the drivers, all new, and calls with these words.
-pub fn run_over(
+/// Calls with these words over a ring adapter and so many protocols, all new.
+fn run_over_ring(
     alloc: Global,
-    drivers: Drivers,
+    count: usize,
     texts: &[&str],
     source: &mut MemorySource,
     sink: &mut MemorySink,
 ) -> Result<Status, OutOfMemory> {
-    let mut miniports: Vec<Box<dyn MiniportDriver>> = Vec::new(alloc);
-    if drivers.has_miniport {
-        miniports.push(Box::new(alloc, RingAdapter::make(alloc)?)?)?;
-    }
+    let mut miniports: Vec<Box<dyn MiniportDriver>> = Vec::with_capacity(alloc, 1)?;
+    miniports.push(Box::new(alloc, RingAdapter::make(alloc)?)?)?;
     let mut protocols: Vec<Box<dyn ProtocolDriver>> = Vec::new(alloc);
-    for _ in 0..drivers.protocols {
+    for _ in 0..count {
         protocols.push(Box::new(alloc, LogProtocol::make(alloc)?)?)?;
     }
     close_all(&mut protocols);
@@ -59,6 +57,45 @@ pub fn run_over(
     })?;
     let words = words_of(alloc, texts)?;
     Ok(ndis_serial(alloc, words.as_slice(), source, sink, &mut parts))
+}
+
+/// Calls with these words over so many protocols and no miniport.
+fn run_without_miniport(
+    alloc: Global,
+    count: usize,
+    texts: &[&str],
+    source: &mut MemorySource,
+    sink: &mut MemorySink,
+) -> Result<Status, OutOfMemory> {
+    let miniports: Vec<Box<dyn MiniportDriver>> = Vec::new(alloc);
+    let mut protocols: Vec<Box<dyn ProtocolDriver>> = Vec::new(alloc);
+    for _ in 0..count {
+        protocols.push(Box::new(alloc, LogProtocol::make(alloc)?)?)?;
+    }
+    close_all(&mut protocols);
+    let mut parts = Vec::with_capacity(alloc, 1)?;
+    parts.push(StackParts {
+        miniports,
+        protocols,
+        shelf: Vec::new(alloc),
+    })?;
+    let words = words_of(alloc, texts)?;
+    Ok(ndis_serial(alloc, words.as_slice(), source, sink, &mut parts))
+}
+
+/// Makes the drivers, all new, and calls with these words.
+pub fn run_over(
+    alloc: Global,
+    drivers: Drivers,
+    texts: &[&str],
+    source: &mut MemorySource,
+    sink: &mut MemorySink,
+) -> Result<Status, OutOfMemory> {
+    if drivers.has_miniport {
+        run_over_ring(alloc, drivers.protocols, texts, source, sink)
+    } else {
+        run_without_miniport(alloc, drivers.protocols, texts, source, sink)
+    }
 }
 
 /// Calls with these words and no parts of a stack.

@@ -1,6 +1,7 @@
 //! Two runs over the same drivers.
-ghost use Rattle.std.specs.Prelude.{All, map};
-ghost use Rattle.stack_book.specs.Open.{AreIdle};
+ghost use Rattle.std.specs.Prelude.{All};
+ghost use Rattle.stack_book.specs.Open.{IsHaltedDriver};
+ghost use Rattle.stack_book.specs.Stands.{IsClosed};
 
 use crate::compare::{line_against, wide_sink};
 use driver_traits::{MiniportDriver, ProtocolDriver};
@@ -68,8 +69,10 @@ fn lines_of_run(
     report: &[u8],
     parts: &mut Vec<StackParts>,
 ) -> Result<String, OutOfMemory>
-    requires idle { All AreIdle (map (λ p. ⟦<StackParts as Handed>⟧.handed p) parts.old.items) }
-    ensures idle { All AreIdle (map (λ p. ⟦<StackParts as Handed>⟧.handed p) parts.new.items) }
+    requires halted { All (λ p. All IsHaltedDriver (⟦<StackParts as Handed>⟧.handed p).miniports) parts.old.items }
+    requires closed { All (λ p. All IsClosed (⟦<StackParts as Handed>⟧.handed p).protocols) parts.old.items }
+    ensures halted { All (λ p. All IsHaltedDriver (⟦<StackParts as Handed>⟧.handed p).miniports) parts.new.items }
+    ensures closed { All (λ p. All IsClosed (⟦<StackParts as Handed>⟧.handed p).protocols) parts.new.items }
 {
     let words = words_of(alloc, &["replay"])?;
     let mut source = MemorySource::make(Vec::from_slice(alloc, script)?, Vec::new(alloc));
