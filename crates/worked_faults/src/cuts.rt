@@ -38,12 +38,12 @@ fn count(
 pub fn lines(alloc: Global, script: &[u8]) -> Result<String, OutOfMemory> {
     let mut lines = String::new(alloc);
     let mut tallies = Vec::new(alloc);
-    let mut silent = 0;
+    let mut silent: usize = 0;
     for length in 0..script.len() {
         let mut sink = wide_sink(alloc)?;
         let status = replay(alloc, ALL_DRIVERS, &script[..length], &mut sink)?;
         if sink.bytes().is_empty() {
-            silent += 1;
+            silent = silent.saturating_add(1);
         }
         match status {
             Status::BadScript { place, cause } => count(&mut tallies, place, cause)?,

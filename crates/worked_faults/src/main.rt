@@ -1,9 +1,8 @@
 //! Runs one recorded script where something fails or is wanting: reads, writes, bytes of the script,
 //! drivers and words. It prints how the calls end, and how what is written compares with the recorded
-//! report. Then it runs the script twice over the same drivers.
+//! report.
 #![tactic(auto)]
 
-mod again;
 mod compare;
 mod cuts;
 mod reads;
@@ -31,6 +30,5 @@ fn main(rt: HostRuntime) -> io::Result<()> {
     tell(&rt, writes::lines(alloc, &script, &report))?;
     tell(&rt, cuts::lines(alloc, &script))?;
     tell(&rt, wanting::lines(alloc, &script, &wide))?;
-    tell(&rt, again::lines(alloc, &script, &report))?;
     tell(&rt, words::lines(alloc, &script))
 }

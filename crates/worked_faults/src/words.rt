@@ -5,6 +5,14 @@ use outside_io::{MemorySource, read_all};
 use run_tools::{ALL_DRIVERS, run_over};
 use std::alloc::Global;
 
+fn name_of_rest(is_whole: bool) -> &'static str {
+    if is_whole {
+        "all of the script"
+    } else {
+        "not all of the script"
+    }
+}
+
 /// The lines on these words, and on what is read from the source after the call.
 fn lines_of_words(
     alloc: Global,
@@ -17,9 +25,8 @@ fn lines_of_words(
     let status = run_over(alloc, ALL_DRIVERS, texts, &mut source, &mut sink)?;
     let mut lines = line_of(alloc, name, status, &sink)?;
     let rest = match read_all(alloc, &mut source, script.len()) {
-        Ok(bytes) if bytes.as_slice() == script => "all of the script",
-        Ok(_) => "not all of the script",
-        Err(_) => "nothing",
+        Ok(bytes) => name_of_rest(bytes.as_slice() == script),
+        Err(_fault) => "nothing",
     };
     let line = format!(in alloc; "{name}: the next reader gets {rest}\n")?;
     lines.push_str(line.as_str())?;

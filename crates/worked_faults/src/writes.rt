@@ -36,16 +36,16 @@ fn leaves(
 /// The lines on faults at each of the writes, and at one more.
 fn lines_of_faults(alloc: Global, script: &[u8], report: &[u8]) -> Result<String, OutOfMemory> {
     let mut lines = String::new(alloc);
-    let mut write = 1;
-    let mut good = 0;
+    let mut write: u64 = 1;
+    let mut good: usize = 0;
     for start in starts_of_lines(alloc, report)? {
         if leaves(alloc, script, report, write, start)? {
-            good += 1;
+            good = good.saturating_add(1);
         } else {
             let line = format!(in alloc; "a fault at write {write} leaves something else\n")?;
             lines.push_str(line.as_str())?;
         }
-        write += 1;
+        write = write.saturating_add(1);
     }
     let line = format!(in alloc;
         "{good} writes, a fault at each: WriteFault, and the lines before it are written\n"
