@@ -14,10 +14,10 @@ use plain_walk::WalkedStack;
 use states::work_at;
 
 fn count_waits(stack: &WalkedStack) -> usize {
-    let mut n = 0;
+    let mut n: usize = 0;
     for turn in stack.journal().turns() {
         if matches!(turn.reply, Reply::Waiting { .. }) {
-            n += 1;
+            n = n.saturating_add(1);
         }
     }
     n
