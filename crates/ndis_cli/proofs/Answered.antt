@@ -15,6 +15,7 @@ use Rattle.script_types.specs.declared.ScriptFault.TheVariants as fault
 use Rattle.script_forms.specs.Script.{Says, too_long, not_json, json, script_in}
 use Rattle.script_file.specs.Reads.{ReadsAs}
 use Rattle.script_runs.specs.Built.{is_built, IsRun}
+use Rattle.driver_laws.proofs.Runs.{run_served}
 use Rattle.ndis_cli.specs.declared.top.Status.{Status}
 use Rattle.ndis_cli.specs.declared.top.Status.TheVariants as status
 use Rattle.home_laws.specs.Rows.{rows_of}
@@ -187,9 +188,9 @@ lacks old script parts k is built few = record { script = script; is = is; built
 
 -- the report of a journal was begun
 pub replayed : (How : Option (List ℕ) → Option (List ℕ) → List ℕ → Type 0) (held held' : Option (List ℕ)) (script : Script) (journals : List Written) (journal : Written) (parts parts' : List PartsView)
-    → journals ≡ journal ∷ [] → IsRun script journal.head journal.turns → AreBack script.stacks (rows_of journal.turns) parts parts' → How held held' (report journals []) → Replayed How script parts parts' held held'
-replayed How held held' script journals journal parts parts' only ran back written =
-    record { journal = journal; ran = ran; back = back; written = subst (λ js. How held held' (report js [])) only written }
+    → is_built script ≡ true → journals ≡ journal ∷ [] → IsRun script journal.head journal.turns → AreBack script.stacks (rows_of journal.turns) parts parts' → How held held' (report journals []) → Replayed How script parts parts' held held'
+replayed How held held' script journals journal parts parts' built only ran back written =
+    record { journal = journal; ran = ran; back = back; served = run_served script journal.head journal.turns back.first back.now built ran back.back; written = subst (λ js. How held held' (report js [])) only written }
 
 pub wrote : (How : Option (List ℕ) → Option (List ℕ) → List ℕ → Type 0) (old held held' : Option (List ℕ)) (script : Script) (parts parts' : List PartsView) → IsOf old script → is_built script ≡ true → Replayed How script parts parts' held held' → Wrote How old parts parts' held held'
 wrote How old held held' script parts parts' is built r = record { script = script; is = is; built = built; replayed = r }

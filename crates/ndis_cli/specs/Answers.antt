@@ -16,6 +16,7 @@ use Rattle.home_laws.specs.Rows.{rows_of}
 use Rattle.stack_book.specs.Parts.{PartsView}
 use Rattle.script_runs.specs.Built.{is_built, IsRun}
 use Rattle.script_runs.specs.Drivers.{LacksDrivers, ComeBack}
+use Rattle.driver_laws.specs.Served.{RunServed}
 use Rattle.ndis_cli.specs.declared.top.Status.{Status}
 use Rattle.ndis_cli.specs.declared.top.Status.TheVariants.{Done, Usage, BadScript, ReadFault, WriteFault, Memory, NoParts}
 
@@ -43,12 +44,14 @@ pub record AreBack (stacks : List StackSetup) (rows : List Row) (parts parts' : 
   pub back : ComeBack stacks rows first now
 
 -- a script was run over the first of the parts: its journal is of its stack, sound, and as the laws and the
--- script ask; the stack's drivers came back and did what its rows say; and what was written is the report of
--- that journal, or, with AddsPrefix, a prefix of it
+-- script ask; the stack's drivers came back, did what its rows say and nothing else, and served it as is
+-- promised of journals; and what was written is the report of that journal, or, with AddsPrefix, a prefix of
+-- it
 pub record Replayed (How : Option (List ℕ) → Option (List ℕ) → List ℕ → Type 0) (script : Script) (parts parts' : List PartsView) (held held' : Option (List ℕ)) : Type 0 where
   pub journal : Written
   pub ran : IsRun script journal.head journal.turns
   pub back : AreBack script.stacks (rows_of journal.turns) parts parts'
+  pub served : RunServed script.stacks journal.turns back.first back.now back.back
   pub written : How held held' (report (journal ∷ []) [])
 
 -- the bytes are a script that can be run, and it was

@@ -1,0 +1,17 @@
+use Rattle.std.proofs.Common.{inr}
+use Rattle.outside_io.specs.Edges.{AddsPrefix}
+use Rattle.ndis_cli.specs.Answers.{Adds}
+use Rattle.ndis_cli.proofs.Answered.{replayed}
+use Rattle.ndis_cli.proofs.top.replay.Goals as goal
+
+pub returns-in-Ok-write_report-clause-done : goal.returns-in-Ok-write_report-clause-done
+returns-in-Ok-write_report-clause-done g c e =
+    replayed Adds _ _ c.args.script.now _ c.in-Ok.journal _ _ c.requires.built c.from_ref.ensures.value c.in-Ok.ensures.run c.in-Ok.ensures.back c.in-Ok-write_report.ensures.whole
+
+pub returns-in-Err-Failed-clause-cut : goal.returns-in-Err-Failed-clause-cut
+returns-in-Err-Failed-clause-cut g c e =
+    replayed AddsPrefix _ _ c.args.script.now _ c.in-Ok.journal _ _ c.requires.built c.from_ref.ensures.value c.in-Ok.ensures.run c.in-Ok.ensures.back c.in-Err-Failed.ensures.prefix
+
+pub returns-clause-memory : goal.returns-clause-memory
+returns-clause-memory g c e =
+    inr (replayed AddsPrefix _ _ c.args.script.now _ c.in-Ok.journal _ _ c.requires.built c.from_ref.ensures.value c.in-Ok.ensures.run c.in-Ok.ensures.back c.in-Err-Memory.ensures.prefix)
