@@ -34,13 +34,15 @@ pub fn words_of(alloc: Global, texts: &[&str]) -> Result<Vec<String>, OutOfMemor
     Ok(words)
 }
 
-/// Calls with these words over a ring adapter and so many protocols, all new.
+/// Calls with these words over a ring adapter and so many protocols, all new; and, where there is a
+/// further script, once more over the drivers that came back. It answers how the last call ended.
 fn run_over_ring(
     alloc: Global,
     count: usize,
     texts: &[&str],
     source: &mut MemorySource,
     sink: &mut MemorySink,
+    further: Option<&[u8]>,
 ) -> Result<Status, OutOfMemory> {
     let mut miniports: Vec<Box<dyn MiniportDriver>> = Vec::with_capacity(alloc, 1)?;
     miniports.push(Box::new(alloc, RingAdapter::make(alloc)?)?)?;
@@ -56,7 +58,14 @@ fn run_over_ring(
         shelf: Vec::new(alloc),
     })?;
     let words = words_of(alloc, texts)?;
-    Ok(ndis_serial(alloc, words.as_slice(), source, sink, &mut parts))
+    let status = ndis_serial(alloc, words.as_slice(), source, sink, &mut parts);
+    match further {
+        Some(script) => {
+            let mut source = MemorySource::make(Vec::from_slice(alloc, script)?, Vec::new(alloc));
+            Ok(ndis_serial(alloc, words.as_slice(), &mut source, sink, &mut parts))
+        }
+        None => Ok(status),
+    }
 }
 
 /// Calls with these words over so many protocols and no miniport.
@@ -92,7 +101,7 @@ pub fn run_over(
     sink: &mut MemorySink,
 ) -> Result<Status, OutOfMemory> {
     if drivers.has_miniport {
-        run_over_ring(alloc, drivers.protocols, texts, source, sink)
+        run_over_ring(alloc, drivers.protocols, texts, source, sink, None)
     } else {
         run_without_miniport(alloc, drivers.protocols, texts, source, sink)
     }
@@ -119,4 +128,21 @@ pub fn replay(
 ) -> Result<Status, OutOfMemory> {
     let mut source = MemorySource::make(Vec::from_slice(alloc, script)?, Vec::new(alloc));
     run_over(alloc, drivers, &["replay"], &mut source, sink)
+}
+
+/// Replays a script twice over the same drivers, one report after the other.
+pub fn replay_twice(
+    alloc: Global,
+    script: &[u8],
+    sink: &mut MemorySink,
+) -> Result<Status, OutOfMemory> {
+    let mut source = MemorySource::make(Vec::from_slice(alloc, script)?, Vec::new(alloc));
+    run_over_ring(
+        alloc,
+        ALL_DRIVERS.protocols,
+        &["replay"],
+        &mut source,
+        sink,
+        Some(script),
+    )
 }

@@ -5,7 +5,7 @@
 use ndis_base::OutOfMemory;
 use ndis_cli::Status;
 use outside_io::{MemorySink, MemorySource};
-use run_tools::{ALL_DRIVERS, replay, run_without_parts};
+use run_tools::{ALL_DRIVERS, replay, replay_twice, run_without_parts};
 use std::{fs, io};
 
 /// The bytes that a report has at most.
@@ -69,10 +69,28 @@ fn tell_of_nothing(rt: &HostRuntime) -> io::Result<()> {
     tell(rt, "no text", status, &sink)
 }
 
+/// Replays one script twice over the same drivers.
+fn compare_both(rt: &HostRuntime) -> io::Result<()> {
+    let alloc = rt.alloc();
+    let script = fs::read(rt, "lists-and-pools-2.script.json")?;
+    let report = fs::read(rt, "lists-and-pools-2.report")?;
+    let Ok(mut sink) = MemorySink::make(alloc, ROOM, Vec::new(alloc)) else {
+        return println!(rt; "twice out of memory");
+    };
+    let status = replay_twice(alloc, script.as_slice(), &mut sink);
+    let first = same_in_front(report.as_slice(), sink.bytes());
+    let half = report.len().min(sink.bytes().len());
+    let second = same_in_front(report.as_slice(), &sink.bytes()[half..]);
+    let each = report.len();
+    println!(rt; "twice over the same drivers: {first} and {second} of {each} bytes are the same")?;
+    tell(rt, "twice", status, &sink)
+}
+
 fn main(rt: HostRuntime) -> io::Result<()> {
     let names = fs::read_to_string(&rt, "names")?;
     for name in names.as_str().lines() {
         compare(&rt, name)?;
     }
+    compare_both(&rt)?;
     tell_of_nothing(&rt)
 }
