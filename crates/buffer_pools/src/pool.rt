@@ -15,7 +15,7 @@ use std::alloc::Global;
 use std::marker::Model;
 
 /// All lists of the pool are live.
-#[derive(Clone, Copy, Debug, PartialEq, Eq)]
+#[derive(Clone, Copy, PartialEq, Eq)]
 pub struct NoList;
 
 /// A pool of a fixed number of lists, each with room for eight frames of a fixed number of bytes.

@@ -7,7 +7,7 @@ ghost use Rattle.driver_states.specs.Steps.{turning, next_state};
 use ndis_base::ModuleState;
 
 /// What kind of module a driver has.
-#[derive(Clone, Copy, Debug, PartialEq, Eq)]
+#[derive(Clone, Copy, PartialEq, Eq)]
 pub enum DriverKind {
     Miniport,
     Filter,
@@ -15,7 +15,7 @@ pub enum DriverKind {
 }
 
 /// What is done to a module, or has been done.
-#[derive(Clone, Copy, Debug, PartialEq, Eq)]
+#[derive(Clone, Copy, PartialEq, Eq)]
 pub enum Op {
     Initialize,
     Halt,

@@ -2,7 +2,7 @@
 
 /// How often each call was made of a driver. A call raises the count of its name by one; a
 /// protocol's `sent` raises `send_complete`.
-#[derive(Clone, Copy, Debug, PartialEq, Eq)]
+#[derive(Clone, Copy, PartialEq, Eq)]
 pub struct Served {
     pub send: u64,
     pub send_complete: u64,

@@ -7,7 +7,7 @@ use crate::net_space::NetSpace;
 use program_types::{Action, Program, Test};
 
 /// What became of a frame.
-#[derive(Clone, Copy, Debug, PartialEq, Eq)]
+#[derive(Clone, Copy, PartialEq, Eq)]
 pub enum Verdict {
     Same,
     Changed,

@@ -1,12 +1,8 @@
 //! What a journal is made of: the fixed part of a stack, events, replies, rows and turns.
 #![tactic(auto)]
 
-pub mod journal;
-pub mod sizes;
-
 ghost use Rattle.std.specs.Prelude.{◌≡◌};
 
-pub use crate::journal::Journal;
 use ndis_base::{
     ConfigNo, CrossNo, Direction, FilterKind, Frame, Handlers, ListNo, ListStatus, MiniportKind,
     ModuleId, ModuleState, OidKind, OidNo, OidStatus, OidValue, Origin, Phase, ProtocolKind,
@@ -82,7 +78,7 @@ pub struct Setup {
 
 /// How a miniport is set up: its Ethernet address, the lists that its transmit ring holds and those
 /// in its pool (each 1 to 256), and the VLAN of a virtual miniport (1 to 4094).
-#[derive(Clone, Copy, Debug, PartialEq, Eq)]
+#[derive(Clone, Copy, PartialEq, Eq)]
 pub struct PortSetup {
     pub address: [u8; 6],
     pub ring: usize,
@@ -161,7 +157,7 @@ pub struct StackHead {
 }
 
 /// Where something on its way goes: to a module, or to the bindings together.
-#[derive(Clone, Copy, Debug, PartialEq, Eq)]
+#[derive(Clone, Copy, PartialEq, Eq)]
 pub enum Target {
     Module(ModuleId),
     Bindings,
@@ -170,7 +166,7 @@ pub enum Target {
 /// A driver's call on a buffer list (WDK: FilterSendNetBufferLists,
 /// FilterSendNetBufferListsComplete, FilterReceiveNetBufferLists, FilterReturnNetBufferLists, and
 /// the like of miniports and protocols).
-#[derive(Clone, Copy, Debug, PartialEq, Eq)]
+#[derive(Clone, Copy, PartialEq, Eq)]
 pub enum Handler {
     Send,
     SendComplete,
@@ -181,7 +177,7 @@ pub enum Handler {
 
 /// Which way a buffer list is passed: down as a send, done on the way back up, up as an indicated
 /// receive, or back down.
-#[derive(Clone, Copy, Debug, PartialEq, Eq)]
+#[derive(Clone, Copy, PartialEq, Eq)]
 pub enum PassWay {
     Down,
     Done(ListStatus),
@@ -190,28 +186,28 @@ pub enum PassWay {
 }
 
 /// How a binding got a buffer list: as its own until it returns it, or for the time of the call.
-#[derive(Clone, Copy, Debug, PartialEq, Eq)]
+#[derive(Clone, Copy, PartialEq, Eq)]
 pub enum How {
     Own,
     Lent,
 }
 
 /// Whose state a phase row tells.
-#[derive(Clone, Copy, Debug, PartialEq, Eq)]
+#[derive(Clone, Copy, PartialEq, Eq)]
 pub enum PhaseOf {
     Module(ModuleId, ModuleState),
     Stack(Phase),
 }
 
 /// Which way a message crosses between two stacks.
-#[derive(Clone, Copy, Debug, PartialEq, Eq)]
+#[derive(Clone, Copy, PartialEq, Eq)]
 pub enum Way {
     Down,
     Up,
 }
 
 /// Which way a message leaves its stack, and downwards the list that it was taken from.
-#[derive(Clone, Copy, Debug, PartialEq, Eq)]
+#[derive(Clone, Copy, PartialEq, Eq)]
 pub enum OutWay {
     Down(ListNo),
     Up,
@@ -317,7 +313,7 @@ pub enum Reply {
 }
 
 /// Why an event was refused.
-#[derive(Clone, Copy, Debug, PartialEq, Eq)]
+#[derive(Clone, Copy, PartialEq, Eq)]
 pub enum Refusal {
     WrongPhase { phase: Phase },
     InitRefused,

@@ -18,7 +18,7 @@ use std::alloc::{AllocError, AllocFailed};
 
 /// A module of a stack: its one miniport, a filter module by its number (from 1, in order of
 /// attachment and never used again), or a protocol binding by its number (from 0).
-#[derive(Clone, Copy, Debug, PartialEq, Eq)]
+#[derive(Clone, Copy, PartialEq, Eq)]
 pub enum ModuleId {
     Miniport,
     Filter(u64),
@@ -26,31 +26,31 @@ pub enum ModuleId {
 }
 
 /// The number of a buffer list, from 1 in each stack in order of issue.
-#[derive(Clone, Copy, Debug, PartialEq, Eq)]
+#[derive(Clone, Copy, PartialEq, Eq)]
 pub struct ListNo(pub u64);
 
 /// The number of an OID request, from 1 in each stack, clones among them.
-#[derive(Clone, Copy, Debug, PartialEq, Eq)]
+#[derive(Clone, Copy, PartialEq, Eq)]
 pub struct OidNo(pub u64);
 
 /// The number of a status indication, from 1 in each stack.
-#[derive(Clone, Copy, Debug, PartialEq, Eq)]
+#[derive(Clone, Copy, PartialEq, Eq)]
 pub struct StatusNo(pub u64);
 
 /// The number of a message between stacks, from 1 in the stack that it is taken from.
-#[derive(Clone, Copy, Debug, PartialEq, Eq)]
+#[derive(Clone, Copy, PartialEq, Eq)]
 pub struct CrossNo(pub u64);
 
 /// The number of a configuration: 1 at initialisation, and one more at each change.
-#[derive(Clone, Copy, Debug, PartialEq, Eq)]
+#[derive(Clone, Copy, PartialEq, Eq)]
 pub struct ConfigNo(pub u64);
 
 /// The number of a lane, from 0.
-#[derive(Clone, Copy, Debug, PartialEq, Eq)]
+#[derive(Clone, Copy, PartialEq, Eq)]
 pub struct LaneNo(pub u8);
 
 /// The phase of a stack. It is Running exactly while the bindings are.
-#[derive(Clone, Copy, Debug, PartialEq, Eq)]
+#[derive(Clone, Copy, PartialEq, Eq)]
 pub enum Phase {
     Halted,
     Paused,
@@ -61,7 +61,7 @@ pub enum Phase {
 
 /// The state of a module (WDK, "Miniport Adapter States and Operations", "Filter Module States
 /// and Operations" and "Protocol Driver Operations").
-#[derive(Clone, Copy, Debug, PartialEq, Eq)]
+#[derive(Clone, Copy, PartialEq, Eq)]
 pub enum ModuleState {
     Halted,
     Detached,
@@ -76,7 +76,7 @@ pub enum ModuleState {
 }
 
 /// How a buffer list was done with (WDK, "NET_BUFFER_LIST structure", the field Status).
-#[derive(Clone, Copy, Debug, PartialEq, Eq)]
+#[derive(Clone, Copy, PartialEq, Eq)]
 pub enum ListStatus {
     Success,
     Paused,
@@ -86,7 +86,7 @@ pub enum ListStatus {
 }
 
 /// How an OID request was done.
-#[derive(Clone, Copy, Debug, PartialEq, Eq)]
+#[derive(Clone, Copy, PartialEq, Eq)]
 pub enum OidStatus {
     Success,
     NotSupported,
@@ -94,14 +94,14 @@ pub enum OidStatus {
 }
 
 /// What an OID request asks (WDK, "NDIS_OID_REQUEST structure", the field RequestType).
-#[derive(Clone, Copy, Debug, PartialEq, Eq)]
+#[derive(Clone, Copy, PartialEq, Eq)]
 pub enum OidKind {
     Query,
     Set,
 }
 
 /// What a status indication tells.
-#[derive(Clone, Copy, Debug, PartialEq, Eq)]
+#[derive(Clone, Copy, PartialEq, Eq)]
 pub enum StatusName {
     LinkUp,
     LinkDown,
@@ -109,7 +109,7 @@ pub enum StatusName {
 }
 
 /// The kind of a miniport driver.
-#[derive(Clone, Copy, Debug, PartialEq, Eq)]
+#[derive(Clone, Copy, PartialEq, Eq)]
 pub enum MiniportKind {
     Ring,
     Loop,
@@ -117,7 +117,7 @@ pub enum MiniportKind {
 }
 
 /// The kind of a protocol driver.
-#[derive(Clone, Copy, Debug, PartialEq, Eq)]
+#[derive(Clone, Copy, PartialEq, Eq)]
 pub enum ProtocolKind {
     Log,
     Retain,
@@ -126,7 +126,7 @@ pub enum ProtocolKind {
 }
 
 /// The kind of a filter driver.
-#[derive(Clone, Copy, Debug, PartialEq, Eq)]
+#[derive(Clone, Copy, PartialEq, Eq)]
 pub enum FilterKind {
     Pass,
     Rule,
@@ -139,7 +139,7 @@ pub enum FilterKind {
 /// Which pairs of handlers a filter has: send with send complete, receive with return, OID request
 /// with OID request complete, and the status handler. A filter is bypassed for what it lacks (WDK,
 /// "Filter Module Bypass Mode").
-#[derive(Clone, Copy, Debug, PartialEq, Eq)]
+#[derive(Clone, Copy, PartialEq, Eq)]
 pub struct Handlers {
     pub send: bool,
     pub receive: bool,
@@ -148,21 +148,21 @@ pub struct Handlers {
 }
 
 /// The limits that a stack is opened with: the bytes in a frame, and the filters in a stack.
-#[derive(Clone, Copy, Debug, PartialEq, Eq)]
+#[derive(Clone, Copy, PartialEq, Eq)]
 pub struct Limits {
     pub max_frame: usize,
     pub max_filters: usize,
 }
 
 /// How many turns a stack has had, and its phase after them.
-#[derive(Clone, Copy, Debug, PartialEq, Eq)]
+#[derive(Clone, Copy, PartialEq, Eq)]
 pub struct Front {
     pub turns: u64,
     pub phase: Phase,
 }
 
 /// Who made a turn: the run itself, a lane by a call of the script, or a lane by a call's tail.
-#[derive(Clone, Copy, Debug, PartialEq, Eq)]
+#[derive(Clone, Copy, PartialEq, Eq)]
 pub enum Who {
     Own,
     Call(LaneNo),
@@ -171,7 +171,7 @@ pub enum Who {
 
 /// The direction of a buffer list: sent down, indicated up, or lent upwards for the time of the
 /// indication (WDK, "Receiving Data", the flag NDIS_RECEIVE_FLAGS_RESOURCES).
-#[derive(Clone, Copy, Debug, PartialEq, Eq)]
+#[derive(Clone, Copy, PartialEq, Eq)]
 pub enum Direction {
     Down,
     Up,
@@ -179,7 +179,7 @@ pub enum Direction {
 }
 
 /// Where a buffer list comes from: it is a root, or a clone or a copy of another list.
-#[derive(Clone, Copy, Debug, PartialEq, Eq)]
+#[derive(Clone, Copy, PartialEq, Eq)]
 pub enum Origin {
     Root,
     Clone(ListNo),

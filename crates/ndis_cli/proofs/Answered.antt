@@ -3,7 +3,7 @@ use Rattle.std.proofs.Common.{◌≡◌, ℕ, List, [], ◌∷◌, ◌++◌, Opt
 use Rattle.std.specs.Prelude.{IfSome, IsTrue}
 use Rattle.std.proofs.lemmas.List.{append-nil}
 use Rattle.outside_io.specs.Edges.{before}
-use Rattle.journal_types.specs.Written.{Written}
+use Rattle.journal_store.specs.Written.{Written}
 use Rattle.run_report.specs.Report.{report}
 use Rattle.script_types.specs.declared.Script.{Script}
 use Rattle.script_types.specs.declared.ScriptPlace.{ScriptPlace}

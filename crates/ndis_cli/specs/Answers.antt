@@ -1,6 +1,6 @@
 -- What the top call answers, reads and writes.
 use Rattle.std.specs.Prelude.{◌≡◌, ℕ, true, false, Bool, List, [], ◌∷◌, Option, Some, Ok, Err, IfSome}
-use Rattle.journal_types.specs.Written.{Written}
+use Rattle.journal_store.specs.Written.{Written}
 use Rattle.outside_io.specs.Edges.{after}
 use Rattle.run_report.specs.Report.{report}
 use Rattle.journal_types.specs.declared.Row.{Row}

@@ -12,7 +12,7 @@ ghost use Rattle.ndis_cli.specs.Words as form;
 ghost use Rattle.ndis_cli.specs.Answers.{IsOf, IsFaulty, Adds, AreBack, Replayed, Wrote, IsFine, LacksFirst, LacksParts, is_early, ends_reading, ends_replay, IsDone, IsWanting};
 
 use crate::words::is_form;
-use journal_types::Journal;
+use journal_store::Journal;
 use outside_io::{ReadRefusal, Sink, Source, read_all};
 use run_report::{ReportFault, write_report};
 use script_file::read_script;

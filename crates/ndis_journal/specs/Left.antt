@@ -1,7 +1,7 @@
 -- The lines of a journal that are left to be written.
 use Rattle.std.specs.Prelude.{ℕ, ◌≡◌, ◌+◌, ◌++◌, List, [], ◌∷◌, map, length}
 use Rattle.ndis_base.specs.declared.ProtocolKind.{ProtocolKind}
-use Rattle.journal_types.specs.Written.{Written}
+use Rattle.journal_store.specs.Written.{Written}
 use Rattle.journal_types.specs.declared.Turn.{Turn}
 use Rattle.journal_types.specs.declared.Row.{Row}
 use Rattle.ndis_journal.specs.Text.{lines, binding_lines, turn_lines, row_line, end_line}

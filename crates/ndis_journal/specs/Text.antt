@@ -7,7 +7,7 @@ use Rattle.journal_types.specs.declared.PortSetup.{PortSetup}
 use Rattle.journal_types.specs.declared.StackHead.{StackHead}
 use Rattle.journal_types.specs.declared.Turn.{Turn}
 use Rattle.journal_types.specs.declared.Row.{Row}
-use Rattle.journal_types.specs.Written.{Written}
+use Rattle.journal_store.specs.Written.{Written}
 use Rattle.journal_words.specs.Words.{spaced, hex_text, binding_text}
 use Rattle.journal_events.specs.Events.{who_words, event_words, reply_words}
 use Rattle.journal_rows.specs.Rows.{row_words}

@@ -6,7 +6,8 @@ ghost use Rattle.ndis_journal.specs.Text.{link_words, vlan_words, port_words, li
 use crate::counts::{Counted, count_rows};
 use journal_events::events::{push_event, push_reply, push_who};
 use journal_rows::rows::push_row;
-use journal_types::{Journal, PortSetup, Row, StackHead, Turn};
+use journal_store::Journal;
+use journal_types::{PortSetup, Row, StackHead, Turn};
 use journal_words::line::Line;
 use ndis_base::{OutOfMemory, ProtocolKind, name_of_miniport_kind, name_of_protocol_kind};
 use std::alloc::Global;

@@ -4,7 +4,7 @@ ghost use Rattle.std.specs.List.{concat};
 ghost use Rattle.ndis_journal.specs.Text.{lines, text};
 
 use crate::lines::Lines;
-use journal_types::Journal;
+use journal_store::Journal;
 use ndis_base::OutOfMemory;
 use std::alloc::Global;
 

@@ -41,7 +41,7 @@ const ROOM: usize = 16;
 const FAR: u64 = 1 << 60;
 
 /// A list on its way: its number, its owner, its direction, and which way it is passed and to where.
-#[derive(Clone, Copy, Debug, PartialEq, Eq)]
+#[derive(Clone, Copy, PartialEq, Eq)]
 pub struct AwayList {
     pub list: ListNo,
     pub owner: ModuleId,

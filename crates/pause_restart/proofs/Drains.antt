@@ -7,7 +7,7 @@ use Rattle.ndis_base.specs.declared.ModuleId.TheVariants.{Miniport}
 use Rattle.ndis_base.specs.declared.ListStatus.TheVariants.{Success}
 use Rattle.ndis_base.specs.declared.Phase.{Phase}
 use Rattle.ndis_base.specs.declared.Phase.TheVariants as phase
-use Rattle.journal_types.specs.Sizes.{row_bytes, frames_bytes}
+use Rattle.journal_store.specs.Sizes.{row_bytes, frames_bytes}
 use Rattle.journal_types.specs.declared.PassWay.TheVariants as way
 use Rattle.journal_types.specs.declared.Target.TheVariants.{Module}
 use Rattle.journal_types.specs.declared.Row.{Row}

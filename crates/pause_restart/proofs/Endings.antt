@@ -3,7 +3,7 @@ use Rattle.std.proofs.Common.{◌≡◌, ◌≤◌, true, false, sym, ap, ◌∙
 use Rattle.journal_types.specs.declared.Asked.{Asked}
 use Rattle.journal_types.specs.declared.Event.{Event}
 use Rattle.journal_types.specs.declared.Reply.{Reply}
-use Rattle.journal_types.specs.Sizes.{event_bytes}
+use Rattle.journal_store.specs.Sizes.{event_bytes}
 use Rattle.stack_rules.specs.declared.Choice.{Choice}
 use Rattle.stack_rules.specs.Net.{seen}
 use Rattle.stack_rules.specs.Outcome.{Outcome}

@@ -13,7 +13,7 @@ use Rattle.journal_types.specs.declared.Reply.TheVariants as reply
 use Rattle.journal_types.specs.declared.Refusal.TheVariants as refusal
 use Rattle.journal_types.specs.declared.Row.{Row}
 use Rattle.journal_types.specs.declared.Row.TheVariants as row
-use Rattle.journal_types.specs.Sizes.{row_bytes}
+use Rattle.journal_store.specs.Sizes.{row_bytes}
 use Rattle.stack_rules.specs.Tests.{phase_is_halted, phase_is_paused, phase_is_running, phase_is_restarting}
 use Rattle.stack_rules.specs.Net.{Net}
 use Rattle.stack_rules.specs.Outcome.{Outcome, refused, config_no}

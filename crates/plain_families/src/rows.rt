@@ -14,7 +14,7 @@ use plain_parts::rows::sum_of;
 use std::alloc::Global;
 
 /// A kind of rows that a promise asks for.
-#[derive(Clone, Copy, Debug, PartialEq, Eq)]
+#[derive(Clone, Copy, PartialEq, Eq)]
 pub enum Wanted {
     /// The row that issues the list of this number.
     Issue(u64),

@@ -1,6 +1,6 @@
 //! The bytes of the frames in a turn. Bytes past the greatest number count as want of memory.
 ghost use Rattle.std.specs.Prelude.{◌≡◌, ◌+◌, IfOk, sum_by};
-ghost use Rattle.journal_types.specs.Sizes.{frames_bytes, event_bytes, reply_bytes, row_bytes, turn_bytes};
+ghost use Rattle.journal_store.specs.Sizes.{frames_bytes, event_bytes, reply_bytes, row_bytes, turn_bytes};
 
 use journal_types::{Event, Frames, Reply, Row, Turn};
 use ndis_base::{Frame, OutOfMemory};

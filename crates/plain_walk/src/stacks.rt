@@ -6,7 +6,8 @@ ghost use Rattle.plain_walk.specs.Walked.{turn_of, next_turn, answer_of, ByRules
 
 use crate::fits::fits;
 use crate::sizes::turn_bytes;
-use journal_types::{Event, Frames, Journal, Refusal, Reply, Row, Rows, StackHead, Turn};
+use journal_store::Journal;
+use journal_types::{Event, Frames, Refusal, Reply, Row, Rows, StackHead, Turn};
 use ndis_base::{CrossNo, OutOfMemory, Phase, Who};
 use plain_net::PlainNet;
 use plain_parts::copies::copy_frames;

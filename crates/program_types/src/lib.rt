@@ -8,7 +8,7 @@ use std::marker::Model;
 
 /// What a rule asks of a frame. A frame is tagged where it has at least 18 bytes and its EtherType,
 /// at offset 12, is 0x8100 (IEEE 802.1Q, the tag protocol identifier of a customer VLAN tag).
-#[derive(Clone, Copy, Debug, PartialEq, Eq)]
+#[derive(Clone, Copy, PartialEq, Eq)]
 pub enum Test {
     /// Always holds.
     Any,
@@ -29,7 +29,7 @@ pub enum Test {
 }
 
 /// What a rule does to a frame for which its test holds.
-#[derive(Clone, Copy, Debug, PartialEq, Eq)]
+#[derive(Clone, Copy, PartialEq, Eq)]
 pub enum Action {
     /// The frame is dropped.
     Drop,
@@ -45,7 +45,7 @@ pub enum Action {
 }
 
 /// One rule of a program.
-#[derive(Clone, Copy, Debug, PartialEq, Eq)]
+#[derive(Clone, Copy, PartialEq, Eq)]
 pub struct Rule {
     pub test: Test,
     pub action: Action,

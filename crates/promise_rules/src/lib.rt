@@ -9,7 +9,7 @@ use ndis_base::{CrossNo, ListStatus, ModuleId};
 
 /// The place of a driver: which of the three lists of handed-in drivers it stands in, and its number
 /// there, from 0.
-#[derive(Clone, Copy, Debug, PartialEq, Eq)]
+#[derive(Clone, Copy, PartialEq, Eq)]
 pub enum Place {
     Miniport(usize),
     Filter(usize),
@@ -17,7 +17,7 @@ pub enum Place {
 }
 
 /// What a driver is called for; the counts that it keeps of its calls have these names.
-#[derive(Clone, Copy, Debug, PartialEq, Eq)]
+#[derive(Clone, Copy, PartialEq, Eq)]
 pub enum Called {
     Send,
     SendComplete,
@@ -30,7 +30,7 @@ pub enum Called {
 }
 
 /// A call of a module's driver.
-#[derive(Clone, Copy, Debug, PartialEq, Eq)]
+#[derive(Clone, Copy, PartialEq, Eq)]
 pub struct Call {
     pub module_id: ModuleId,
     pub what: Called,
@@ -73,7 +73,7 @@ pub enum Tail {
 }
 
 /// The stack below a virtual miniport, the mux binding there that it stands on, and its VLAN.
-#[derive(Clone, Copy, Debug, PartialEq, Eq)]
+#[derive(Clone, Copy, PartialEq, Eq)]
 pub struct Link {
     pub lower: u8,
     pub binding: u32,
@@ -82,7 +82,7 @@ pub struct Link {
 
 /// What the opening of a stack has still to do: to initialise; to insert the filters that are left
 /// above so many that are attached, and then to restart until the stack runs; and nothing.
-#[derive(Clone, Copy, Debug, PartialEq, Eq)]
+#[derive(Clone, Copy, PartialEq, Eq)]
 pub enum Opening {
     Initialising,
     Inserting(u64),
@@ -91,7 +91,7 @@ pub enum Opening {
 
 /// What the ending of a stack has still to do: a stack that is pausing or doesn't run is brought to
 /// run again, all is pumped, it is paused, all is pumped, and it is halted.
-#[derive(Clone, Copy, Debug, PartialEq, Eq)]
+#[derive(Clone, Copy, PartialEq, Eq)]
 pub enum Ending {
     PausingFirst,
     DrainingFirst,

@@ -12,7 +12,7 @@ use outside_io::{Failed, Sink, write_whole};
 use std::alloc::Global;
 
 /// Why a report wasn't written whole.
-#[derive(Clone, Copy, Debug, PartialEq, Eq)]
+#[derive(Clone, Copy, PartialEq, Eq)]
 pub enum ReportFault {
     /// A write failed.
     Failed,

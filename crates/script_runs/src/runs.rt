@@ -11,7 +11,7 @@ ghost use Rattle.script_runs.specs.Drivers.{LacksDrivers, LeavesDrivers, ComeBac
 ghost use Rattle.script_runs.specs.Built as form;
 
 use crate::built::head_of;
-use journal_types::Journal;
+use journal_store::Journal;
 use ndis_base::OutOfMemory;
 use script_events::event_of_call;
 use script_types::{Call, Script};

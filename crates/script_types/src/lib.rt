@@ -57,7 +57,7 @@ pub struct StackSetup {
 
 /// A miniport: its kind and its set-up, and for a virtual miniport the stack below and the mux
 /// binding there that it stands on.
-#[derive(Clone, Copy, Debug, PartialEq, Eq)]
+#[derive(Clone, Copy, PartialEq, Eq)]
 pub struct MiniportSetup {
     pub kind: MiniportKind,
     pub port: PortSetup,

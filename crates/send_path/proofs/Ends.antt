@@ -8,7 +8,7 @@ use Rattle.journal_types.specs.declared.Event.{Event}
 use Rattle.journal_types.specs.declared.Event.TheVariants as event
 use Rattle.journal_types.specs.declared.Reply.{Reply}
 use Rattle.journal_types.specs.declared.StackHead.{StackHead}
-use Rattle.journal_types.specs.Sizes.{event_bytes}
+use Rattle.journal_store.specs.Sizes.{event_bytes}
 use Rattle.buffer_pools.specs.Views.{Fits}
 use Rattle.stack_rules.specs.declared.Choice.{Choice}
 use Rattle.stack_rules.specs.declared.Thing.{Thing}

@@ -17,7 +17,7 @@ use Rattle.journal_types.specs.declared.Reply.TheVariants as reply
 use Rattle.journal_types.specs.declared.Refusal.TheVariants as refusal
 use Rattle.journal_types.specs.declared.Row.{Row}
 use Rattle.journal_types.specs.declared.Row.TheVariants as row
-use Rattle.journal_types.specs.Sizes.{row_bytes, frames_bytes}
+use Rattle.journal_store.specs.Sizes.{row_bytes, frames_bytes}
 use Rattle.buffer_pools.specs.Views.{ListView, Fits}
 use Rattle.stack_rules.specs.declared.LiveList.{LiveList}
 use Rattle.stack_rules.specs.declared.Stand.{Stand}

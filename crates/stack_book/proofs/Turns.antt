@@ -8,7 +8,7 @@ use Rattle.journal_types.specs.declared.Reply.{Reply}
 use Rattle.journal_types.specs.declared.Reply.TheVariants as reply
 use Rattle.journal_types.specs.declared.Row.{Row}
 use Rattle.journal_types.specs.declared.StackHead.{StackHead}
-use Rattle.journal_types.specs.Sizes.{turn_bytes, row_bytes, reply_bytes, event_bytes, frames_bytes}
+use Rattle.journal_store.specs.Sizes.{turn_bytes, row_bytes, reply_bytes, event_bytes, frames_bytes}
 use Rattle.stack_rules.specs.declared.Choice.{Choice}
 use Rattle.stack_rules.specs.Net.{Net, seen, after_rows}
 use Rattle.stack_rules.specs.Outcome.{Outcome, answered}

@@ -5,7 +5,7 @@ use Rattle.journal_types.specs.declared.Reply.{Reply}
 use Rattle.journal_types.specs.declared.Reply.TheVariants as reply
 use Rattle.journal_types.specs.declared.Row.{Row}
 use Rattle.journal_types.specs.declared.Turn.{Turn}
-use Rattle.journal_types.specs.Sizes.{row_bytes}
+use Rattle.journal_store.specs.Sizes.{row_bytes}
 use Rattle.stack_rules.specs.Net.{seen}
 use Rattle.stack_rules.specs.Outcome.{Outcome}
 use Rattle.stack_rules.specs.Sound.{Next}

@@ -3,7 +3,7 @@ ghost use Rattle.std.specs.Prelude.{◌≡◌, ℕ, ◌+◌, ◌≤◌, ◌<◌,
 ghost use Rattle.ndis_base.specs.declared.ModuleId.TheVariants.{Miniport, Binding};
 ghost use Rattle.ndis_base.specs.declared.ListStatus.{ListStatus};
 ghost use Rattle.buffer_pools.specs.Views.{Fits};
-ghost use Rattle.journal_types.specs.Sizes.{turn_bytes};
+ghost use Rattle.journal_store.specs.Sizes.{turn_bytes};
 ghost use Rattle.journal_types.specs.declared.PassWay.TheVariants as way;
 ghost use Rattle.journal_types.specs.declared.Target.TheVariants.{Module};
 ghost use Rattle.stack_rules.specs.declared.LiveList.{LiveList};

@@ -25,7 +25,7 @@ impl Handed for StackParts {
 
 /// Why a stack was not opened: its head names more miniports or protocols of a kind than were handed
 /// in, or memory ran out.
-#[derive(Clone, Copy, Debug, PartialEq, Eq)]
+#[derive(Clone, Copy, PartialEq, Eq)]
 pub enum OpenFault {
     NoParts,
     Memory,

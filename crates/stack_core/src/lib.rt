@@ -3,7 +3,7 @@
 #![tactic(auto)]
 
 ghost use Rattle.std.specs.Prelude.{◌≡◌, ◌≢◌, ◌+◌, ◌-◌, ◌≤◌, ◌<◌, ◌^◌, ◌∷◌, [], ◌*◌, List, None, Some, IsSome, OnOk, OnErr, IfOk, All, length, slice_index_or, slice_set};
-ghost use Rattle.journal_types.specs.Sizes.{turn_bytes};
+ghost use Rattle.journal_store.specs.Sizes.{turn_bytes};
 ghost use Rattle.stack_rules.specs.Net.{seen, start};
 ghost use Rattle.stack_rules.specs.Sound.{Next};
 ghost use Rattle.stack_rules.specs.Pauses.{state_rows, binding_ids};
@@ -18,7 +18,8 @@ ghost use Rattle.stack_core.specs.Core.{Follows, turn_of, Finishes, HasCoreRoom,
 
 use buffer_pools::{BufferList, Label, ListPool, NoList};
 use driver_traits::{MiniportDriver, Tray};
-use journal_types::{Asked, Frames, Journal, PhaseOf, Reply, Row, StackHead, Turn};
+use journal_store::Journal;
+use journal_types::{Asked, Frames, PhaseOf, Reply, Row, StackHead, Turn};
 use ndis_base::{Frame, ListNo, ModuleId, ModuleState, OutOfMemory};
 use own_ledger::OwnLedger;
 use std::alloc::Global;

@@ -9,7 +9,7 @@ use Rattle.journal_types.specs.declared.Event.{Event}
 use Rattle.journal_types.specs.declared.Event.TheVariants as event
 use Rattle.journal_types.specs.declared.Reply.{Reply}
 use Rattle.journal_types.specs.declared.Reply.TheVariants as reply
-use Rattle.journal_types.specs.Sizes.{event_bytes}
+use Rattle.journal_store.specs.Sizes.{event_bytes}
 use Rattle.stack_rules.specs.Net.{Net, seen}
 use Rattle.stack_rules.specs.Outcome.{answered}
 use Rattle.stack_rules.specs.Places.{agenda_first}
