@@ -21,7 +21,7 @@ use Rattle.stack_rules.specs.Net.{Net, after, after_rows, after_turn, told, seen
 use Rattle.stack_rules.specs.Places.{outstanding, agenda_first}
 use Rattle.stack_rules.specs.Outcome.{Outcome}
 use Rattle.stack_rules.specs.Pauses.{floors, state_row, state_rows, first_unpaused, paused_rows, pause_outcome}
-use Rattle.stack_rules.specs.Pumps.{request_pump, pump_of, pump_moves, pump_outcome}
+use Rattle.stack_rules.specs.Pumps.{request_pump, pump_of, is_pump_moving, pump_outcome}
 use Rattle.stack_rules.specs.Requests.{Giving, next_giving}
 use Rattle.stack_rules.specs.Drains.{drain_rows, drained, drain_outcome}
 use Rattle.stack_rules.specs.Sound.{outcome, Next, SoundFrom}
@@ -34,7 +34,7 @@ use Rattle.state_laws.proofs.Events.{state_after, plain_same, turn_is}
 use Rattle.place_laws.specs.Kept.{IsInPlace}
 use Rattle.work_laws.specs.Bounds.{is_drain}
 use Rattle.work_laws.specs.InPlace.{EachInPlace}
-use Rattle.work_laws.proofs.Adds.{Adds, pause_adds}
+use Rattle.work_laws.proofs.Adds.{AddsAtMost, pause_adds}
 use Rattle.work_laws.proofs.Filters.{Lowers}
 use Rattle.work_laws.proofs.Drains.{drain_lowers, loops_running}
 use Rattle.drain_laws.specs.Drains.{is_draining, is_moved, drains_some, DrainsAreBounded}
@@ -58,7 +58,7 @@ drained_moves (r ∷ rows) = inl refl
 
 pub drain_moves : (net : Net) (keeps : Bool) → MovesOrIdles (drain_outcome net keeps)
 drain_moves net keeps =
-    by_test MovesOrIdles (pump_moves net) (pump_outcome net keeps) (drained (drain_rows net)) (λ _. pump_of_moves net keeps (agenda_first net)) (λ _. drained_moves (drain_rows net))
+    by_test MovesOrIdles (is_pump_moving net) (pump_outcome net keeps) (drained (drain_rows net)) (λ _. pump_of_moves net keeps (agenda_first net)) (λ _. drained_moves (drain_rows net))
 
 -- the stack pauses or is Paused
 abbrev pub is_still : Phase → Bool
@@ -131,7 +131,7 @@ drain_lessens net r rows choice h s a b = by (drain_moves net choice.keeps)
 event_lessens : (net : Net) (e : Event) (r : Reply) (rows : List Row) (choice : Choice) → IsInPlace net → is_still net.phase ≡ true → is_draining e ≡ true → r ≡ (outcome net e choice).reply → rows ≡ (outcome net e choice).rows → Lessens net e r rows
 event_lessens net event.Drain r rows choice h s d a b = drain_lessens net r rows choice h s a b
 event_lessens net event.PauseNext r rows choice h s d a b =
-    let least : work (after_rows net rows) ≤ work net + 0 = subst (Adds net 0) (sym b) (pause_adds net) in
+    let least : work (after_rows net rows) ≤ work net + 0 = subst (AddsAtMost net 0) (sym b) (pause_adds net) in
     omega (arith, least)
 event_lessens net _ r rows choice h s d a b = cc
 

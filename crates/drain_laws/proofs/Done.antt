@@ -14,10 +14,11 @@ use Rattle.stack_rules.specs.declared.Thing.TheVariants as thing
 use Rattle.stack_rules.specs.Tests.{phase_is_halted, phase_is_paused}
 use Rattle.stack_rules.specs.Net.{Net, Modules, first_oid, has_oid, lists, request_of}
 use Rattle.stack_rules.specs.Places.{is_away, position}
-use Rattle.stack_rules.specs.Requests.{Giving, entry_giving, filter_ids, first_waiting, giving_to, has_waiting, is_at_entry, is_busy, is_given_to, lowest_giving, next_giving, oid_modules, or_else, waits_at}
+use Rattle.stack_rules.specs.Requests.{Giving, entry_giving, filter_ids, first_waiting, giving_to, has_waiting, is_at_entry, is_busy, is_given_to, lowest_giving, next_giving, oid_modules, or_else, is_waiting_at}
 use Rattle.stack_rules.specs.Rewires.{is_in}
 use Rattle.stack_rules.specs.Work.{thing_work, request_work, work}
-use Rattle.place_laws.specs.Kept.{place_position, IsAsked, EachRequest, EachApart}
+use Rattle.place_laws.specs.Kept.{place_position, IsAsked}
+use Rattle.rule_basics.specs.Live.{EachRequest, EachApart}
 use Rattle.request_laws.proofs.Finds.{EachRequest-both, EachRequest-implies, each_found}
 use Rattle.request_laws.proofs.Orders.{same_is}
 use Rattle.drain_laws.specs.Serving.{Takes, is_clone, has_clone_of, has_answer, is_served, IsServed, AreServed}
@@ -76,7 +77,7 @@ none_given rs (m ∷ ms) e = by (has_waiting rs m) (is_busy rs m) refl refl e (n
   where
     by : (b c : Bool) → has_waiting rs m ≡ b → is_busy rs m ≡ c → is_some (cond (b && not c) (giving_to m (first_waiting rs m)) (lowest_giving rs ms)) ≡ false → (is_some (lowest_giving rs ms) ≡ false → AreIdle rs ms) → IsIdle rs m × AreIdle rs ms
     by true true t u e rest = (λ w. u, rest e)
-    by true false t u e rest = absurd (not_both (is_some (giving_to m (first_waiting rs m))) (is_some_giving m (first_waiting rs m) (any_found (λ r. waits_at m r.at) rs t)) e)
+    by true false t u e rest = absurd (not_both (is_some (giving_to m (first_waiting rs m))) (is_some_giving m (first_waiting rs m) (any_found (λ r. is_waiting_at m r.at) rs t)) e)
     by false c t u e rest = (λ w. absurd (not_both (has_waiting rs m) w t), rest e)
 
 idle_in : (rs : List Request) (f : ℕ) (fs : List ℕ) → AreIdle rs (filter_ids fs) → is_in f fs ≡ true → IsIdle rs (Filter f)
@@ -183,7 +184,7 @@ module _ (net : Net) (deep : ℕ) (all : EachRequest (IsKnown net deep) net.requ
           let here : position net.modules.order m ≡ deep = sym (ap (place_position net) e) ∙ d in
           absurd (omega (arith, low, here))
       by (at.Waiting m) e s =
-          let waiting : has_waiting net.requests m ≡ true = find_any (λ q. q.request.0 == r.request.0) (λ q. waits_at m q.at) net.requests r k.found (ap (waits_at m) e ∙ same_self m) in
+          let waiting : has_waiting net.requests m ≡ true = find_any (λ q. q.request.0 == r.request.0) (λ q. is_waiting_at m q.at) net.requests r k.found (ap (is_waiting_at m) e ∙ same_self m) in
           let busy = any_request (IsKnown net deep) (λ q. is_given_to m q.at) net.requests all (takes_idle net.modules net.requests m idle s waiting) in
           let low = below_given busy.0 busy.1 m (given_is m busy.0.at busy.2) in
           let here : position net.modules.order m ≡ deep = sym (ap (place_position net) e) ∙ d in
@@ -219,7 +220,7 @@ entry_none net p q h e = by net.requests h (busy_none net.requests h) (waiting_n
 
     waiting_none : (rs : List Request) → EachRequest (λ r. r.at ≡ at.Entry) rs → has_waiting rs (first_oid net.modules net.modules.order) ≡ false
     waiting_none [] h = refl
-    waiting_none (r ∷ rs) h = ap (λ a. waits_at (first_oid net.modules net.modules.order) a || has_waiting rs (first_oid net.modules net.modules.order)) h.0 ∙ waiting_none rs h.1
+    waiting_none (r ∷ rs) h = ap (λ a. is_waiting_at (first_oid net.modules net.modules.order) a || has_waiting rs (first_oid net.modules net.modules.order)) h.0 ∙ waiting_none rs h.1
 
     chosen : (a b c d : Bool) (g : Option Giving) → a ≡ false → b ≡ false → c ≡ false → d ≡ false → is_some (cond ((a || b) || (c || d)) None g) ≡ false → is_some g ≡ false
     chosen true b c d g x y z w e = cc

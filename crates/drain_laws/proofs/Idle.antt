@@ -22,14 +22,15 @@ use Rattle.stack_rules.specs.declared.Stand.TheVariants as stand
 use Rattle.stack_rules.specs.declared.Thing.{Thing}
 use Rattle.stack_rules.specs.declared.Thing.TheVariants as thing
 use Rattle.stack_rules.specs.Tests.{is_retain, is_virtual, phase_is_halted, phase_is_paused, phase_is_running}
-use Rattle.stack_rules.specs.Net.{Net, after_rows, binding_numbers, kind_of_binding, lists, seen}
-use Rattle.stack_rules.specs.Places.{agenda_first, has_clone, is_away, is_clone_of, is_crossed, is_kept_by, is_passed, ready_lists, waits}
+use Rattle.stack_rules.specs.Heads.{binding_numbers, kind_of_binding}
+use Rattle.stack_rules.specs.Net.{Net, after_rows, lists, seen}
+use Rattle.stack_rules.specs.Places.{agenda_first, has_clone, is_away, is_clone_of, is_crossed, is_kept_by, is_passed, ready_lists, is_waiting}
 use Rattle.stack_rules.specs.Sends.{first_of, transmitted}
 use Rattle.stack_rules.specs.Targets.{turned_back}
-use Rattle.stack_rules.specs.Cancels.{holds_lists}
+use Rattle.stack_rules.specs.Cancels.{is_hold_filter}
 use Rattle.stack_rules.specs.Rewires.{is_in}
 use Rattle.stack_rules.specs.Requests.{Giving, next_giving}
-use Rattle.stack_rules.specs.Pumps.{pump_of, pump_moves, pump_outcome, request_pump}
+use Rattle.stack_rules.specs.Pumps.{pump_of, is_pump_moving, pump_outcome, request_pump}
 use Rattle.stack_rules.specs.Drains.{returned_by, returns_all, passed_by, passes_all, empties, empties_ring, first_rows, drain_rows, drained, drain_outcome}
 use Rattle.stack_rules.specs.Sound.{outcome, Next, Sound}
 use Rattle.stack_rules.specs.Work.{work}
@@ -37,7 +38,7 @@ use Rattle.rule_basics.specs.Live.{Each}
 use Rattle.home_laws.specs.Standing.{IsYounger}
 use Rattle.home_laws.proofs.Known.{by_test}
 use Rattle.home_laws.proofs.Standing.{lists_stand}
-use Rattle.place_laws.specs.Kept.{Stands, IsPlaced, IsInPlace}
+use Rattle.place_laws.specs.Kept.{StandsPlaced, IsPlaced, IsInPlace}
 use Rattle.work_laws.specs.InPlace.{EachInPlace}
 use Rattle.work_laws.proofs.Drains.{Each-both, drain_lowers, loops_running}
 use Rattle.drain_laws.specs.Resting.{Rests, IsResting}
@@ -52,7 +53,7 @@ use Rattle.drain_laws.proofs.Tests.{none_or, not_both, or_none, same_self}
 -- the modules that a drain empties while the stack doesn't run
 abbrev Gives : Net → ModuleId → Type 0
 Gives net Miniport = Unit {0}
-Gives net (Filter f) = (is_in f net.modules.order ≡ true) × (holds_lists net.modules f ≡ true)
+Gives net (Filter f) = (is_in f net.modules.order ≡ true) × (is_hold_filter net.modules f ≡ true)
 Gives net (Binding b) = (is_in b (binding_numbers net.head) ≡ true) × (is_retain (kind_of_binding net.head b) ≡ true)
 
 -- rows of several modules are none where those of each are none
@@ -107,23 +108,23 @@ none_ready net p e = by (all_none (map (returns_all net) (binding_numbers net.he
         empties_none net (ready_lists net Miniport) p last.0
     by h (Filter f) g =
         let mid = none_front (map (passes_all net) net.modules.order) (empties_ring net ∷ []) (none_back (map (returns_all net) (binding_numbers net.head)) _ h) in
-        map_none (passed_by net f) (ready_lists net (Filter f)) (chosen (holds_lists net.modules f) (map (passed_by net f) (ready_lists net (Filter f))) g.1 (none_at (passes_all net) f net.modules.order mid g.0))
+        map_none (passed_by net f) (ready_lists net (Filter f)) (chosen (is_hold_filter net.modules f) (map (passed_by net f) (ready_lists net (Filter f))) g.1 (none_at (passes_all net) f net.modules.order mid g.0))
     by h (Binding b) g =
         let first = none_front (map (returns_all net) (binding_numbers net.head)) _ h in
         map_none (returned_by net) (ready_lists net (Binding b)) (chosen (is_retain (kind_of_binding net.head b)) (map (returned_by net) (ready_lists net (Binding b))) g.1 (none_at (returns_all net) b (binding_numbers net.head) first g.0))
 
 -- so each list that such a module keeps waits
 abbrev KeptWaits : Net → LiveList → Type 0
-KeptWaits net l = (m : ModuleId) → Gives net m → is_kept_by m l.stand ≡ true → waits net l ≡ true
+KeptWaits net l = (m : ModuleId) → Gives net m → is_kept_by m l.stand ≡ true → is_waiting net l ≡ true
 
-kept_wait : (net : Net) (ls : List LiveList) → ((m : ModuleId) → Gives net m → filter (λ l. not (waits net l)) (filter (λ l. is_kept_by m l.stand) ls) ≡ []) → Each (KeptWaits net) ls
+kept_wait : (net : Net) (ls : List LiveList) → ((m : ModuleId) → Gives net m → filter (λ l. not (is_waiting net l)) (filter (λ l. is_kept_by m l.stand) ls) ≡ []) → Each (KeptWaits net) ls
 kept_wait net [] f = tt
-kept_wait net (l ∷ ls) f = (λ m g k. here (is_kept_by m l.stand) (waits net l) (filter (λ x. is_kept_by m x.stand) ls) k (f m g), kept_wait net ls (λ m g. rest (is_kept_by m l.stand) (filter (λ x. is_kept_by m x.stand) ls) (f m g)))
+kept_wait net (l ∷ ls) f = (λ m g k. here (is_kept_by m l.stand) (is_waiting net l) (filter (λ x. is_kept_by m x.stand) ls) k (f m g), kept_wait net ls (λ m g. rest (is_kept_by m l.stand) (filter (λ x. is_kept_by m x.stand) ls) (f m g)))
   where
-    here : (b c : Bool) (xs : List LiveList) → b ≡ true → filter (λ x. not (waits net x)) (cond b (l ∷ xs) xs) ≡ [] → waits net l ≡ true
-    here true c xs k e = on (waits net l) e
+    here : (b c : Bool) (xs : List LiveList) → b ≡ true → filter (λ x. not (is_waiting net x)) (cond b (l ∷ xs) xs) ≡ [] → is_waiting net l ≡ true
+    here true c xs k e = on (is_waiting net l) e
       where
-        on : (w : Bool) → cond (not w) (l ∷ filter (λ x. not (waits net x)) xs) (filter (λ x. not (waits net x)) xs) ≡ [] → w ≡ true
+        on : (w : Bool) → cond (not w) (l ∷ filter (λ x. not (is_waiting net x)) xs) (filter (λ x. not (is_waiting net x)) xs) ≡ [] → w ≡ true
         on true e = refl
         on false e = cc
     here false c xs k e = cc
@@ -132,8 +133,8 @@ kept_wait net (l ∷ ls) f = (λ m g k. here (is_kept_by m l.stand) (waits net l
     tail true xs e = e
     tail false xs e = cc
 
-    rest : (b : Bool) (xs : List LiveList) → filter (λ x. not (waits net x)) (cond b (l ∷ xs) xs) ≡ [] → filter (λ x. not (waits net x)) xs ≡ []
-    rest true xs e = tail (waits net l) (filter (λ x. not (waits net x)) xs) e
+    rest : (b : Bool) (xs : List LiveList) → filter (λ x. not (is_waiting net x)) (cond b (l ∷ xs) xs) ≡ [] → filter (λ x. not (is_waiting net x)) xs ≡ []
+    rest true xs e = tail (is_waiting net l) (filter (λ x. not (is_waiting net x)) xs) e
     rest false xs e = e
 
 -- the youngest list
@@ -184,7 +185,7 @@ none_away (thing.Answer a ∷ ts) e = cc
 -- what is known of each list
 record IsStuck (net : Net) (l : LiveList) : Type 0 where
   rests : IsResting net l
-  placed : Stands net.modules l l.stand
+  placed : StandsPlaced net.modules l l.stand
   free : is_crossed l.crossed ≡ false
   away : is_passed l.stand ≡ false
   waits : KeptWaits net l
@@ -193,9 +194,9 @@ stuck : (net : Net) (l : LiveList) → IsStuck net l → has_clone net l.list.0 
 stuck net l h none = by l.stand refl h.rests h.placed h.away
   where
     kept : (m : ModuleId) → l.stand ≡ stand.Kept m → Gives net m → ⊥
-    kept m e g = not_both (waits net l) (h.waits m g (ap (is_kept_by m) e ∙ same_self m)) (none_or (is_crossed l.crossed) (has_clone net l.list.0) h.free none)
+    kept m e g = not_both (is_waiting net l) (h.waits m g (ap (is_kept_by m) e ∙ same_self m)) (none_or (is_crossed l.crossed) (has_clone net l.list.0) h.free none)
 
-    by : (s : Stand) → l.stand ≡ s → Rests net (has_clone net l.list.0) s → Stands net.modules l s → is_passed s ≡ false → ⊥
+    by : (s : Stand) → l.stand ≡ s → Rests net (has_clone net l.list.0) s → StandsPlaced net.modules l s → is_passed s ≡ false → ⊥
     by stand.Unplaced e r p a = r
     by (stand.Passed way to) e r p a = cc
     by (stand.Kept Miniport) e r p a = kept Miniport e tt
@@ -216,16 +217,16 @@ drained_idle : (rows : List Row) → (drained rows).reply ≡ reply.Idle → row
 drained_idle [] e = refl
 drained_idle (r ∷ rows) e = cc
 
-pub idle_drain : (net : Net) (keeps : Bool) → (drain_outcome net keeps).reply ≡ reply.Idle → (pump_moves net ≡ false) × (drain_rows net ≡ [])
+pub idle_drain : (net : Net) (keeps : Bool) → (drain_outcome net keeps).reply ≡ reply.Idle → (is_pump_moving net ≡ false) × (drain_rows net ≡ [])
 idle_drain net keeps =
-    by_test (λ o. o.reply ≡ reply.Idle → (pump_moves net ≡ false) × (drain_rows net ≡ [])) (pump_moves net) (pump_outcome net keeps) (drained (drain_rows net))
+    by_test (λ o. o.reply ≡ reply.Idle → (is_pump_moving net ≡ false) × (drain_rows net ≡ [])) (is_pump_moving net) (pump_outcome net keeps) (drained (drain_rows net))
     (λ t e. absurd (clash _ (pump_moved net keeps (agenda_first net) t) e))
     (λ f e. (f, drained_idle (drain_rows net) e))
   where
     clash : (r : Reply) → r ≡ reply.Moved → r ≡ reply.Idle → ⊥
     clash r a b = cc
 
-pub idle_empty : (net : Net) → phase_is_running net.phase ≡ false → IsInPlace net → Each (IsResting net) (lists net.things) → Each (λ l. IsYounger l.list.0 l.origin) (lists net.things) → NoneCrossed net → pump_moves net ≡ false → drain_rows net ≡ [] → lists net.things ≡ []
+pub idle_empty : (net : Net) → phase_is_running net.phase ≡ false → IsInPlace net → Each (IsResting net) (lists net.things) → Each (λ l. IsYounger l.list.0 l.origin) (lists net.things) → NoneCrossed net → is_pump_moving net ≡ false → drain_rows net ≡ [] → lists net.things ≡ []
 idle_empty net p h rests young free idle none = by (youngest (IsStuck net) (lists net.things) all)
   where
     all : Each (IsStuck net) (lists net.things)

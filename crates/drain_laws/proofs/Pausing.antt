@@ -18,7 +18,7 @@ use Rattle.stack_rules.specs.declared.LiveList.{LiveList}
 use Rattle.stack_rules.specs.declared.Thing.{Thing}
 use Rattle.stack_rules.specs.Tests.{phase_is_pausing, phase_is_running}
 use Rattle.stack_rules.specs.Net.{Net, Modules, after, after_rows, after_turn, lists, seen, told}
-use Rattle.stack_rules.specs.Places.{counts_at, is_crossed, outstanding}
+use Rattle.stack_rules.specs.Places.{is_counted_at, is_crossed, outstanding}
 use Rattle.stack_rules.specs.Outcome.{Outcome}
 use Rattle.stack_rules.specs.Pauses.{binding_ids, floors, state_rows, first_unpaused, begin_outcome, pause_at, pause_outcome}
 use Rattle.stack_rules.specs.Drains.{drain_outcome}
@@ -41,7 +41,7 @@ use Rattle.place_laws.specs.Kept.{IsInPlace}
 use Rattle.work_laws.specs.InPlace.{EachInPlace}
 use Rattle.work_laws.proofs.Drains.{drain_lowers, loops_running}
 use Rattle.drain_laws.specs.Resting.{IsResting}
-use Rattle.drain_laws.specs.Drains.{is_draining, is_moved, drains_some, NoneCrossed, is_waiting, ends_pause, goes_on, is_ended, PauseBegins, PausesAndDrains, PausesInTime}
+use Rattle.drain_laws.specs.Drains.{is_draining, is_moved, drains_some, NoneCrossed, is_waiting_reply, ends_pause, goes_on, is_ended, PauseBegins, PausesAndDrains, PausesInTime}
 use Rattle.drain_laws.proofs.Reached.{IsReached, reached_front, reached_next, some_binding, sound_rest, of_reached}
 use Rattle.drain_laws.proofs.Bounded.{MovesOrIdles, drain_moves, is_still, still_runs, phase_states, turn_lessens, in_place}
 use Rattle.drain_laws.proofs.Resting.{Rest, none}
@@ -51,12 +51,12 @@ use Rattle.drain_laws.proofs.Idle.{idle_drain, idle_empty, idle_is_empty}
 use Rattle.drain_laws.proofs.Tests.{and_last, not_both, or_none}
 
 -- the stack pauses, and this is the first position that isn't Paused
-pub record IsAt (net : Net) (front : ℕ) : Type 0 where
+pub record IsPausingFrom (net : Net) (front : ℕ) : Type 0 where
   pub phase : net.phase ≡ phase.Pausing
   pub wired : IsWired net.next.filter net.modules
   pub pausing : IsPausing (length net.head.bindings) front net.modules
 
-pub at_start : (head : StackHead) (turns : List Turn) → Sound head turns → (seen head turns).phase ≡ phase.Pausing → (front : ℕ) × IsAt (seen head turns) front
+pub at_start : (head : StackHead) (turns : List Turn) → Sound head turns → (seen head turns).phase ≡ phase.Pausing → (front : ℕ) × IsPausingFrom (seen head turns) front
 at_start head turns s p =
     let net : Net = seen head turns in
     let shape : IsShaped net = shaped_journal head turns s in
@@ -65,7 +65,7 @@ at_start head turns s p =
 
 -- the pause goes on by one position
 pub record IsOn (net next : Net) (front : ℕ) : Type 0 where
-  pub at : IsAt next (front + 1)
+  pub at : IsPausingFrom next (front + 1)
   pub order : next.modules.order ≡ net.modules.order
   pub things : next.things ≡ net.things
   pub within : front ≤ length net.modules.order
@@ -73,7 +73,7 @@ pub record IsOn (net next : Net) (front : ℕ) : Type 0 where
 next_at : (n i : ℕ) → put (put (state_at n (n + 1)) n state.Paused) (n + 1) state.Pausing i ≡ state_at (n + 1) (n + 1 + 1) i
 next_at n i = grind (arith, nat_tests)
 
-next_position : (net : Net) (front : ℕ) → IsAt net front → front ≤ length net.modules.order →
+next_position : (net : Net) (front : ℕ) → IsPausingFrom net front → front ≤ length net.modules.order →
     IsOn net (after_rows net (state_rows (state.Paused ∷ []) (get_or (floors net.modules) front []) ++ state_rows (state.Pausing ∷ []) (get_or (floors net.modules) (front + 1) []))) front
 next_position net front h l =
     let mid : Net = after_rows net (state_rows (state.Paused ∷ []) (get_or (floors net.modules) front [])) in
@@ -107,7 +107,7 @@ next_position net front h l =
 
 -- a PauseNext waits for a list that is live, ends the pause, or goes on
 abbrev Waits : Net → Reply → List Row → Type 0
-Waits net r rows = (is_waiting r ≡ true) × (rows ≡ []) × (lists net.things ≡ [] → ⊥)
+Waits net r rows = (is_waiting_reply r ≡ true) × (rows ≡ []) × (lists net.things ≡ [] → ⊥)
 
 abbrev Ends : Reply → Type 0
 Ends r = ends_pause r ≡ true
@@ -115,7 +115,7 @@ Ends r = ends_pause r ≡ true
 abbrev GoesOn : Net → ℕ → Reply → List Row → Type 0
 GoesOn net front r rows = (r ≡ reply.Next) × IsOn net (after_rows net rows) front
 
-waiting_on : (r : Reply) → is_waiting r ≡ true → goes_on r ≡ true
+waiting_on : (r : Reply) → is_waiting_reply r ≡ true → goes_on r ≡ true
 waiting_on (reply.Waiting n) h = refl
 waiting_on _ h = cc
 
@@ -133,13 +133,13 @@ Steps net front r rows = Waits net r rows ⊎ (Ends r ⊎ GoesOn net front r row
 abbrev OutcomeSteps : Net → ℕ → Outcome → Type 0
 OutcomeSteps net front o = Steps net front o.reply o.rows
 
-steps_at : (net : Net) (front : ℕ) → IsAt net front → OutcomeSteps net front (pause_at net front)
+steps_at : (net : Net) (front : ℕ) → IsPausingFrom net front → OutcomeSteps net front (pause_at net front)
 steps_at net front h =
     by_test (OutcomeSteps net front) (outstanding net front == 0) _ _
     (λ z. done (nat_lt (front + 1) (length (floors net.modules))) refl)
     (λ z. inl (refl, refl, λ e. absurd (counted (lists net.things) e z)))
   where
-    counted : (ls : List LiveList) → ls ≡ [] → (count_by (counts_at net.modules.order front) ls == 0) ≡ false → ⊥
+    counted : (ls : List LiveList) → ls ≡ [] → (count_by (is_counted_at net.modules.order front) ls == 0) ≡ false → ⊥
     counted [] e z = cc
     counted (l ∷ ls) e z = cc
 
@@ -153,7 +153,7 @@ steps_at net front h =
         inr (inr (refl, next_position net front h (omega (arith, many, less))))
     done false t = inr (inl refl)
 
-pause_steps : (net : Net) (front : ℕ) → IsAt net front → OutcomeSteps net front (pause_outcome net)
+pause_steps : (net : Net) (front : ℕ) → IsPausingFrom net front → OutcomeSteps net front (pause_outcome net)
 pause_steps net front h =
     by_test (OutcomeSteps net front) (phase_is_pausing net.phase) (pause_at net (first_unpaused net)) _
     (λ _. subst (λ i. OutcomeSteps net front (pause_at net i)) (sym here) (steps_at net front h))
@@ -163,7 +163,7 @@ pause_steps net front h =
     here = first_unpaused_is net (length net.head.bindings) front (front + 1) h.pausing.some h.pausing.within h.pausing.states
 
 -- the turn of a PauseNext
-turn_steps : (net : Net) (front : ℕ) (turn : Turn) → IsAt net front → Next net turn → turn.event ≡ event.PauseNext → Steps net front turn.reply turn.rows
+turn_steps : (net : Net) (front : ℕ) (turn : Turn) → IsPausingFrom net front → Next net turn → turn.event ≡ event.PauseNext → Steps net front turn.reply turn.rows
 turn_steps net front turn h n e =
     let o : Outcome = outcome net turn.event n.choice in
     let same : o ≡ pause_outcome net = ap (λ (e : Event). outcome net e n.choice) e in
@@ -174,11 +174,11 @@ turn_after net turn e = ap (λ (e : Event). after_rows (told net e turn.reply) t
 
 -- the turn of a drain
 record IsDrained (net next : Net) (front : ℕ) : Type 0 where
-  at : IsAt next front
+  at : IsPausingFrom next front
   order : next.modules.order ≡ net.modules.order
   free : NoneCrossed next
 
-drained_turn : (head : StackHead) (net : Net) (front : ℕ) (turn : Turn) → IsReached head net → IsAt net front → NoneCrossed net → Next net turn → turn.event ≡ event.Drain → IsDrained net (after_turn net turn) front
+drained_turn : (head : StackHead) (net : Net) (front : ℕ) (turn : Turn) → IsReached head net → IsPausingFrom net front → NoneCrossed net → Next net turn → turn.event ≡ event.Drain → IsDrained net (after_turn net turn) front
 drained_turn head net front turn r h free n e =
     let next : Net = state_after net event.Drain (drain_outcome net n.choice.keeps) in
     let is : after_turn net turn ≡ next = turn_is net turn n ∙ ap (λ (e : Event). state_after net e (outcome net e n.choice)) e in
@@ -239,12 +239,12 @@ module _ (each : EachInPlace) (head : StackHead) (some : 1 ≤ length head.bindi
     on : All (λ turn. goes_on turn.reply ≡ true) more
 
   abbrev EachLeft : List Turn → Type 0
-  EachLeft more = (due : Bool) (net : Net) (front : ℕ) → IsReached head net → IsAt net front → NoneCrossed net → (due ≡ true → lists net.things ≡ [] → ⊥) → SoundFrom net more → PausesAndDrains due more → Left due net front more
+  EachLeft more = (due : Bool) (net : Net) (front : ℕ) → IsReached head net → IsPausingFrom net front → NoneCrossed net → (due ≡ true → lists net.things ≡ [] → ⊥) → SoundFrom net more → PausesAndDrains due more → Left due net front more
 
   one_more : (turn : Turn) (more : List Turn) → goes_on turn.reply ≡ true → All (λ turn. goes_on turn.reply ≡ true) more → All (λ turn. goes_on turn.reply ≡ true) (turn ∷ more)
   one_more turn more h all = All-cons (λ (t : Turn). goes_on t.reply ≡ true) turn more h all
 
-  none_left : (due : Bool) (net : Net) (front : ℕ) → IsReached head net → IsAt net front → NoneCrossed net → (due ≡ true → lists net.things ≡ [] → ⊥) → Left due net front []
+  none_left : (due : Bool) (net : Net) (front : ℕ) → IsReached head net → IsPausingFrom net front → NoneCrossed net → (due ≡ true → lists net.things ≡ [] → ⊥) → Left due net front []
   none_left true net front r h free live =
       let most = h.pausing.within in
       let busy = live_work net r h.phase free (live refl) in
@@ -253,7 +253,7 @@ module _ (each : EachInPlace) (head : StackHead) (some : 1 ≤ length head.bindi
       let most = h.pausing.within in
       record { most = omega arith; before = λ _. omega (arith, most); on = All-nil (λ (t : Turn). goes_on t.reply ≡ true) }
 
-  drain_left : (turn : Turn) (more : List Turn) → EachLeft more → (net : Net) (front : ℕ) → IsReached head net → IsAt net front → NoneCrossed net → (lists net.things ≡ [] → ⊥) → SoundFrom net (turn ∷ more) → PausesAndDrains true (turn ∷ more) → Left true net front (turn ∷ more)
+  drain_left : (turn : Turn) (more : List Turn) → EachLeft more → (net : Net) (front : ℕ) → IsReached head net → IsPausingFrom net front → NoneCrossed net → (lists net.things ≡ [] → ⊥) → SoundFrom net (turn ∷ more) → PausesAndDrains true (turn ∷ more) → Left true net front (turn ∷ more)
   drain_left turn more rest net front r h free live s p =
       let still : is_still net.phase ≡ true = ap is_still h.phase in
       let d : IsDrained net (after_turn net turn) front = drained_turn head net front turn r h free s.0 p.0 in
@@ -269,10 +269,10 @@ module _ (each : EachInPlace) (head : StackHead) (some : 1 ≤ length head.bindi
         on = one_more turn more (moved_on turn.reply (and_last (is_drain turn.event) (is_moved turn.reply) moved)) later.on;
       }
 
-  pause_left : (turn : Turn) (more : List Turn) → EachLeft more → (net : Net) (front : ℕ) → IsReached head net → IsAt net front → NoneCrossed net → SoundFrom net (turn ∷ more) → PausesAndDrains false (turn ∷ more) → Left false net front (turn ∷ more)
+  pause_left : (turn : Turn) (more : List Turn) → EachLeft more → (net : Net) (front : ℕ) → IsReached head net → IsPausingFrom net front → NoneCrossed net → SoundFrom net (turn ∷ more) → PausesAndDrains false (turn ∷ more) → Left false net front (turn ∷ more)
   pause_left turn more rest net front r h free s p = by (turn_steps net front turn h s.0 p.0)
     where
-      waits : (next : Net) → next ≡ net → IsReached head next → SoundFrom next more → is_waiting turn.reply ≡ true → (lists net.things ≡ [] → ⊥) → Left true net front more
+      waits : (next : Net) → next ≡ net → IsReached head next → SoundFrom next more → is_waiting_reply turn.reply ≡ true → (lists net.things ≡ [] → ⊥) → Left true net front more
       waits next e q t w live =
           subst (λ m. IsReached head m → SoundFrom m more → Left true net front more) (sym e)
           (λ q t. rest true net front q h free (λ _. live) t (subst (λ b. PausesAndDrains b more) w p.2)) q t
@@ -301,7 +301,7 @@ module _ (each : EachInPlace) (head : StackHead) (some : 1 ≤ length head.bindi
           let less : one_if (drains_some turn) + work (after_turn net turn) ≤ work net = turn_lessens net turn (in_place each head net some r still) still s.0 (ap is_draining p.0) in
           let clear : NoneCrossed (after_turn net turn) = subst (λ (ts : List Thing). Each (λ l. is_crossed l.crossed ≡ false) (lists ts)) (sym on.things) free in
           let later : Left false (after_turn net turn) (front + 1) more =
-          rest false (after_turn net turn) (front + 1) (reached_next head net turn r s.0) on.at clear (λ e. absurd (cc)) s.1 (subst (λ b. PausesAndDrains b more) (ap is_waiting g.0) p.2) in
+          rest false (after_turn net turn) (front + 1) (reached_next head net turn r s.0) on.at clear (λ e. absurd (cc)) s.1 (subst (λ b. PausesAndDrains b more) (ap is_waiting_reply g.0) p.2) in
           let order : length (after_turn net turn).modules.order ≡ length net.modules.order = ap length on.order in
           let within = on.within in
           let most = later.most in

@@ -29,7 +29,8 @@ use Rattle.stack_rules.specs.declared.Stand.TheVariants as stand
 use Rattle.stack_rules.specs.declared.Thing.{Thing}
 use Rattle.stack_rules.specs.declared.Thing.TheVariants as thing
 use Rattle.stack_rules.specs.Tests.{is_hold, is_retain, is_running, is_virtual, phase_is_running, same_frames, same_module}
-use Rattle.stack_rules.specs.Net.{Net, after, after_rows, attached, binding_numbers, kind_of_binding, lists, list_of}
+use Rattle.stack_rules.specs.Heads.{binding_numbers, kind_of_binding}
+use Rattle.stack_rules.specs.Net.{Net, after, after_rows, attached, lists, list_of}
 use Rattle.stack_rules.specs.Places.{position, has_clone, is_clone_of, is_away, agenda_first, is_full, ready_lists}
 use Rattle.stack_rules.specs.Targets.{homeward}
 use Rattle.stack_rules.specs.Outcome.{Outcome, list_no, config_no}
@@ -40,9 +41,9 @@ use Rattle.stack_rules.specs.Receives.{up_at_filter, up_rows}
 use Rattle.stack_rules.specs.Dones.{released_list, released, homeward_rows, completed_by}
 use Rattle.stack_rules.specs.Requests.{Giving, next_giving, giving_rows, given_rows_by, answer_rows}
 use Rattle.stack_rules.specs.Statuses.{seen_by_all, status_rows}
-use Rattle.stack_rules.specs.Pumps.{moved_rows, thing_rows, request_pump, pump_of, pump_outcome, pump_moves}
+use Rattle.stack_rules.specs.Pumps.{moved_rows, thing_rows, request_pump, pump_of, pump_outcome, is_pump_moving}
 use Rattle.stack_rules.specs.Drains.{returned_by, returns_all, passed_by, passes_all, empties, empties_ring, drain_rows, drained, drain_outcome}
-use Rattle.stack_rules.specs.Cancels.{holds_lists, hold_in, cancelled_at, aborted, cancel_rows_at, queues}
+use Rattle.stack_rules.specs.Cancels.{is_hold_filter, hold_in, cancelled_at, aborted, cancel_rows_at, queues}
 use Rattle.stack_rules.specs.Rewires.{is_in}
 use Rattle.rule_basics.specs.Live.{Each, is_live}
 use Rattle.rule_basics.proofs.Lists.{lists-append, lists-without}
@@ -294,7 +295,7 @@ module _ (net : Net) (h : Rest net none net) where
 
   passes_rest : (f : ℕ) → Leaves net net (passes_all net f)
   passes_rest f =
-      by_test (Leaves net net) (holds_lists net.modules f) _ _
+      by_test (Leaves net net) (is_hold_filter net.modules f) _ _
       (λ _. keeps_map net (passed_by net f) (λ l next r. onward_rest net next none none net.modules l.list l.direction (position net.modules.order (Filter f)) (closes_none l.list.0) r) (ready_lists net (Filter f)) net h)
       (λ _. h)
 
@@ -327,7 +328,7 @@ module _ (net : Net) (h : Rest net none net) where
 
   pub drain_rest : (keeps : Bool) → Leaves net net (drain_outcome net keeps).rows
   drain_rest keeps =
-      by_test (λ (o : Outcome). Leaves net net o.rows) (pump_moves net) _ _ (λ _. pump_rest net keeps h) (λ _. drained_rest (drain_rows net) drain_rows_rest)
+      by_test (λ (o : Outcome). Leaves net net o.rows) (is_pump_moving net) _ _ (λ _. pump_rest net keeps h) (λ _. drained_rest (drain_rows net) drain_rows_rest)
 
   -- a cancel
   pub cancel_rest : (id : ℕ) → Leaves net net (flat_map (cancel_rows_at net id) (queues net.modules))

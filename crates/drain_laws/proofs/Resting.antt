@@ -19,7 +19,7 @@ use Rattle.journal_types.specs.declared.Row.TheVariants as row
 use Rattle.stack_rules.specs.declared.LiveList.{LiveList}
 use Rattle.stack_rules.specs.declared.Stand.{Stand}
 use Rattle.stack_rules.specs.declared.Stand.TheVariants as stand
-use Rattle.stack_rules.specs.Net.{Net, Modules, after, after_rows, lists, list_of, had_by, taken_by, kept_by, passed_to, request_of}
+use Rattle.stack_rules.specs.Net.{Net, Modules, after, after_rows, lists, list_of, had_by, taken_by, as_kept, as_passed, request_of}
 use Rattle.stack_rules.specs.Places.{position, has_clone, is_clone_of, is_crossed}
 use Rattle.stack_rules.specs.Targets.{onward, homeward_by, turned_back}
 use Rattle.rule_basics.specs.Live.{IsApart, Each, others, retouched, with_last}
@@ -124,14 +124,14 @@ pass_rest base next loose closed list way to c h =
     let old : Each P (others list.0 ls) =
     others_each (Fine base loose (has_clone next)) P list.0
     (λ l t f. fine_more base loose closed (has_clone next) (has_clone (after next r)) l (λ o. c l.list.0 o t) (clones_after next r h.numbered refl) f) ls h.each in
-    let new : (l : LiveList) → passed_to way to (list_of list.0 ls) ≡ Some l → P l = λ l e. is_passed P (list_of list.0 ls) l (λ x. inr tt) e in
+    let new : (l : LiveList) → as_passed way to (list_of list.0 ls) ≡ Some l → P l = λ l e. is_passed P (list_of list.0 ls) l (λ x. inr tt) e in
     record {
       numbered = numbered_after next r tt h.numbered;
-      each = subst (Each P) (sym (lists-passed list.0 way to next.things)) (last_each P (others list.0 ls) (passed_to way to (list_of list.0 ls)) old new);
-      free = λ f. subst (Each IsFree) (sym (lists-passed list.0 way to next.things)) (last_each IsFree (others list.0 ls) (passed_to way to (list_of list.0 ls)) (Each-others IsFree list.0 ls (h.free f)) (λ l e. is_passed IsFree (list_of list.0 ls) l (λ x. refl) e));
+      each = subst (Each P) (sym (lists-passed list.0 way to next.things)) (last_each P (others list.0 ls) (as_passed way to (list_of list.0 ls)) old new);
+      free = λ f. subst (Each IsFree) (sym (lists-passed list.0 way to next.things)) (last_each IsFree (others list.0 ls) (as_passed way to (list_of list.0 ls)) (Each-others IsFree list.0 ls (h.free f)) (λ l e. is_passed IsFree (list_of list.0 ls) l (λ x. refl) e));
     }
   where
-    is_passed : (P : LiveList → Type 0) (o : Option LiveList) (l : LiveList) → ((x : LiveList) → P (record x { stand = stand.Passed way to; crossed = None })) → passed_to way to o ≡ Some l → P l
+    is_passed : (P : LiveList → Type 0) (o : Option LiveList) (l : LiveList) → ((x : LiveList) → P (record x { stand = stand.Passed way to; crossed = None })) → as_passed way to o ≡ Some l → P l
     is_passed P None l f e = cc
     is_passed P (Some x) l f e = subst P (some_same (record x { stand = stand.Passed way to; crossed = None }) l e) (f x)
 
@@ -146,18 +146,18 @@ keep_rest base next loose closed list m c may h =
     others_each (Fine base loose (has_clone next)) P list.0
     (λ l t f. fine_more base loose closed (has_clone next) (has_clone (after next r)) l (λ o. c l.list.0 o t) more f) ls h.each in
     let kept : MayKeep base (has_clone (after next r) list.0) m = may_more base (has_clone next list.0) (has_clone (after next r) list.0) m (more list.0) may in
-    let new : (l : LiveList) → kept_by m (list_of list.0 ls) ≡ Some l → P l = λ l e. is_kept P (list_of list.0 ls) refl l (λ x i. inr (subst (λ n. MayKeep base (has_clone (after next r) n) m) (sym i) kept)) e in
+    let new : (l : LiveList) → as_kept m (list_of list.0 ls) ≡ Some l → P l = λ l e. is_kept P (list_of list.0 ls) refl l (λ x i. inr (subst (λ n. MayKeep base (has_clone (after next r) n) m) (sym i) kept)) e in
     record {
       numbered = numbered_after next r tt h.numbered;
-      each = subst (Each P) (sym (lists-kept list.0 m next.things)) (last_each P (others list.0 ls) (kept_by m (list_of list.0 ls)) old new);
-      free = λ f. subst (Each IsFree) (sym (lists-kept list.0 m next.things)) (last_each IsFree (others list.0 ls) (kept_by m (list_of list.0 ls)) (Each-others IsFree list.0 ls (h.free f)) (λ l e. was_free (list_of list.0 ls) refl l (h.free f) e));
+      each = subst (Each P) (sym (lists-kept list.0 m next.things)) (last_each P (others list.0 ls) (as_kept m (list_of list.0 ls)) old new);
+      free = λ f. subst (Each IsFree) (sym (lists-kept list.0 m next.things)) (last_each IsFree (others list.0 ls) (as_kept m (list_of list.0 ls)) (Each-others IsFree list.0 ls (h.free f)) (λ l e. was_free (list_of list.0 ls) refl l (h.free f) e));
     }
   where
-    is_kept : (P : LiveList → Type 0) (o : Option LiveList) → list_of list.0 (lists next.things) ≡ o → (l : LiveList) → ((x : LiveList) → x.list.0 ≡ list.0 → P (record x { last = m; stand = stand.Kept m })) → kept_by m o ≡ Some l → P l
+    is_kept : (P : LiveList → Type 0) (o : Option LiveList) → list_of list.0 (lists next.things) ≡ o → (l : LiveList) → ((x : LiveList) → x.list.0 ≡ list.0 → P (record x { last = m; stand = stand.Kept m })) → as_kept m o ≡ Some l → P l
     is_kept P None i l f e = cc
     is_kept P (Some x) i l f e = subst P (some_same (record x { last = m; stand = stand.Kept m }) l e) (f x (find_is list.0 (lists next.things) x i).0)
 
-    was_free : (o : Option LiveList) → list_of list.0 (lists next.things) ≡ o → (l : LiveList) → NoneCrossed next → kept_by m o ≡ Some l → IsFree l
+    was_free : (o : Option LiveList) → list_of list.0 (lists next.things) ≡ o → (l : LiveList) → NoneCrossed next → as_kept m o ≡ Some l → IsFree l
     was_free None i l f e = cc
     was_free (Some x) i l f e = subst IsFree (some_same (record x { last = m; stand = stand.Kept m }) l e) (Each-found IsFree list.0 (lists next.things) x f i)
 

@@ -28,12 +28,13 @@ use Rattle.stack_rules.specs.declared.Message.{Message}
 use Rattle.stack_rules.specs.declared.Stand.{Stand}
 use Rattle.stack_rules.specs.declared.Stand.TheVariants as stand
 use Rattle.stack_rules.specs.Tests.{is_retain, is_running, is_unbound, is_halted, phase_is_running, phase_is_paused, phase_is_pausing, phase_is_halted, phase_is_restarting}
-use Rattle.stack_rules.specs.Net.{Net, after, after_rows, after_turn, after_turns, attached, binding_numbers, kind_of_binding, lists, list_of, seen, start, told, with_state, is_detached}
+use Rattle.stack_rules.specs.Heads.{binding_numbers, kind_of_binding}
+use Rattle.stack_rules.specs.Net.{Net, after, after_rows, after_turn, after_turns, attached, lists, list_of, seen, start, told, with_state, is_detached}
 use Rattle.stack_rules.specs.Places.{position, has_clone, is_clone_of, is_crossed, is_full, is_kept_by, outstanding, state_of}
 use Rattle.stack_rules.specs.Targets.{onward, next_status}
 use Rattle.stack_rules.specs.Outcome.{Outcome, list_no, oid_no, status_no, cross_no, config_no}
-use Rattle.stack_rules.specs.Cancels.{hold_in, holds_lists}
-use Rattle.stack_rules.specs.Crosses.{first_uncrossed, take_of, done_of, take_up_of, grows_too_long, mux_binding_for}
+use Rattle.stack_rules.specs.Cancels.{hold_in, is_hold_filter}
+use Rattle.stack_rules.specs.Crosses.{first_uncrossed, take_of, done_of, take_up_of, is_too_long_tagged, mux_binding_for}
 use Rattle.stack_rules.specs.Pauses.{floors, state_rows, binding_ids, first_unpaused, pause_outcome, begin_outcome, restarting, restart_outcome, running_floors, is_top}
 use Rattle.stack_rules.specs.Receives.{give_back_of}
 use Rattle.stack_rules.specs.Rewires.{is_in}
@@ -119,7 +120,7 @@ module _ (net : Net) (h : Rest net none net) where
   plain_event event.CrossTake c p t = cc
   plain_event (event.CrossPut stack message vlan frames) c p t =
       by_test OutcomeLeaves (phase_is_running net.phase) _ _
-      (λ _. by_test OutcomeLeaves (list_any (grows_too_long net.head) frames) _ _ (λ _. h)
+      (λ _. by_test OutcomeLeaves (list_any (is_too_long_tagged net.head) frames) _ _ (λ _. h)
       (λ _. by_test OutcomeLeaves (is_full net (Binding (mux_binding_for net.head stack))) _ _ (λ _. h)
       (λ _. root_rest net (Binding (mux_binding_for net.head stack)) direction.Down None (map (pushed vlan) frames) 0 refl h)))
       (λ _. h)
@@ -162,7 +163,7 @@ same_kind : (f : ℕ) (s : ModuleState) (o : Option Attached) → hold_in (optio
 same_kind f s None = refl
 same_kind f s (Some a) = elim (a.filter == f) as (λ b. hold_in (Some (cond b (record a { state = s }) a)) ≡ hold_in (Some a)) [ true ↦ refl | false ↦ refl ]
 
-gentle_holds : (net : Net) (r : Row) → is_gentle r ≡ true → (f : ℕ) → holds_lists (after net r).modules f ≡ holds_lists net.modules f
+gentle_holds : (net : Net) (r : Row) → is_gentle r ≡ true → (f : ℕ) → is_hold_filter (after net r).modules f ≡ is_hold_filter net.modules f
 gentle_holds net (row.Phase (of.Module Miniport s)) g f = refl
 gentle_holds net (row.Phase (of.Module (Binding b) s)) g f = refl
 gentle_holds net (row.Phase (of.Module (Filter k) s)) g f =
@@ -178,7 +179,7 @@ gentle_holds net (row.Phase (of.Module (Filter k) s)) g f =
 gentle_holds net (row.Phase (of.Stack p)) g f = refl
 gentle_holds net _ g f = cc
 
-gentle_rows : (net : Net) (rows : List Row) → AreGentle rows → (f : ℕ) → holds_lists (after_rows net rows).modules f ≡ holds_lists net.modules f
+gentle_rows : (net : Net) (rows : List Row) → AreGentle rows → (f : ℕ) → is_hold_filter (after_rows net rows).modules f ≡ is_hold_filter net.modules f
 gentle_rows net [] g f = refl
 gentle_rows net (r ∷ rows) g f = gentle_rows (after net r) rows g.1 f ∙ gentle_holds net r g.0 f
 
@@ -209,7 +210,7 @@ restart_gentle net =
     (λ _. tt)
 
 -- another state with lists that rest as well
-rests_by : (base other : Net) (cloned : Bool) (s : Stand) → other.head ≡ base.head → ((f : ℕ) → holds_lists other.modules f ≡ holds_lists base.modules f) → Rests base cloned s → Rests other cloned s
+rests_by : (base other : Net) (cloned : Bool) (s : Stand) → other.head ≡ base.head → ((f : ℕ) → is_hold_filter other.modules f ≡ is_hold_filter base.modules f) → Rests base cloned s → Rests other cloned s
 rests_by base other cloned stand.Unplaced e f h = h
 rests_by base other cloned (stand.Kept Miniport) e f h = tt
 rests_by base other cloned (stand.Kept (Filter g)) e f (inl h) = inl (f g ∙ h)
@@ -217,11 +218,11 @@ rests_by base other cloned (stand.Kept (Filter g)) e f (inr h) = inr h
 rests_by base other cloned (stand.Kept (Binding b)) e f h = subst (λ (head : StackHead). (is_in b (binding_numbers head) ≡ true) × (is_retain (kind_of_binding head b) ≡ true)) (sym e) h
 rests_by base other cloned (stand.Passed way to) e f h = tt
 
-fine_by : (base other : Net) (cloned : ℕ → Bool) (l : LiveList) → other.head ≡ base.head → ((f : ℕ) → holds_lists other.modules f ≡ holds_lists base.modules f) → Fine base none cloned l → Fine other none cloned l
+fine_by : (base other : Net) (cloned : ℕ → Bool) (l : LiveList) → other.head ≡ base.head → ((f : ℕ) → is_hold_filter other.modules f ≡ is_hold_filter base.modules f) → Fine base none cloned l → Fine other none cloned l
 fine_by base other cloned l e f (inl o) = inl o
 fine_by base other cloned l e f (inr r) = inr (rests_by base other (cloned l.list.0) l.stand e f r)
 
-rest_by : (base next : Net) → next.head ≡ base.head → ((f : ℕ) → holds_lists next.modules f ≡ holds_lists base.modules f) → Rest base none next → Rest next none next
+rest_by : (base next : Net) → next.head ≡ base.head → ((f : ℕ) → is_hold_filter next.modules f ≡ is_hold_filter base.modules f) → Rest base none next → Rest next none next
 rest_by base next e f h = record {
   numbered = h.numbered;
   each = Each-implies _ _ (λ l r. fine_by base next (has_clone next) l e f r) (lists next.things) h.each;
@@ -249,8 +250,8 @@ gentle_event : (net : Net) (e : Event) (c : Choice) (s : IsShaped net) → is_pl
 gentle_event net e c s p t g h =
     let next : Net = state_after net e (outcome net e c) in
     let changed : IsChanged net next s = event_kept net s e c p in
-    let kinds : (f : ℕ) → holds_lists next.modules f ≡ holds_lists net.modules f =
-    λ f. ap (λ (m : Net). holds_lists (after_rows m (outcome net e c).rows).modules f) (t (outcome net e c).reply) ∙ gentle_rows net (outcome net e c).rows g f in
+    let kinds : (f : ℕ) → is_hold_filter next.modules f ≡ is_hold_filter net.modules f =
+    λ f. ap (λ (m : Net). is_hold_filter (after_rows m (outcome net e c).rows).modules f) (t (outcome net e c).reply) ∙ gentle_rows net (outcome net e c).rows g f in
     rest_by net next changed.head kinds (same_lists net net next changed.things changed.list h)
 
 -- an event of a stack without lists
@@ -299,7 +300,7 @@ event_rests net e c held h = cases (is_plain e) refl
     by_take true t p = takes e t
     by_take false t p =
         let same : IsSame net (state_after net e (outcome net e c)) = plain_same net e c p in
-        rest_by net (state_after net e (outcome net e c)) same.head (λ f. ap (λ ms. holds_lists ms f) same.modules) (plain_event net h e c p t)
+        rest_by net (state_after net e (outcome net e c)) same.head (λ f. ap (λ ms. is_hold_filter ms f) same.modules) (plain_event net h e c p t)
 
     cases : (b : Bool) → is_plain e ≡ b → Rest (state_after net e (outcome net e c)) none (state_after net e (outcome net e c))
     cases true p = by_take (is_take e) refl p

@@ -27,11 +27,11 @@ use Rattle.stack_rules.specs.declared.RequestAt.TheVariants as at
 use Rattle.stack_rules.specs.declared.Thing.{Thing}
 use Rattle.stack_rules.specs.declared.Thing.TheVariants as thing
 use Rattle.stack_rules.specs.Tests.{is_unbound, phase_is_halted, phase_is_paused}
-use Rattle.stack_rules.specs.Net.{Net, Modules, after, after_rows, after_turn, after_turns, attached, has_oid, has_oid_pair, is_detached, start, told, with_state}
+use Rattle.stack_rules.specs.Net.{Net, Modules, after, after_rows, after_turn, after_turns, attached, has_oid, is_detached, start, told, with_state, handlers_of}
 use Rattle.stack_rules.specs.Outcome.{Outcome, oid_no, max_filters}
 use Rattle.stack_rules.specs.Places.{agenda_first, state_of}
 use Rattle.stack_rules.specs.Pauses.{binding_ids, state_row, state_rows, initialize_rows, initialize_outcome, live_items, halt_items, halt_rows, halt_outcome}
-use Rattle.stack_rules.specs.Pumps.{moved_rows, request_pump, pump_of, pump_moves, pump_outcome}
+use Rattle.stack_rules.specs.Pumps.{moved_rows, request_pump, pump_of, is_pump_moving, pump_outcome}
 use Rattle.stack_rules.specs.Drains.{drain_rows, drained, drain_outcome}
 use Rattle.stack_rules.specs.Requests.{Giving, given_rows_by, giving_rows, is_at_entry, next_giving, ask_outcome}
 use Rattle.stack_rules.specs.Rewires.{is_bad_position, is_in, insert_outcome, remove_outcome, replace_outcome}
@@ -43,7 +43,7 @@ use Rattle.state_laws.proofs.Rows.{by_test, AreCalm, AreQuiet, is_calm, IsSame, 
 use Rattle.state_laws.proofs.Calm.{is_calm_event, calm_drained, calm_event, calm_moved, calm_status}
 use Rattle.state_laws.proofs.Events.{state_after, at_phase, shaped_journal, turn_is, when_halted}
 use Rattle.state_laws.proofs.Takes.{attached-with_state}
-use Rattle.place_laws.specs.Kept.{EachRequest, EachApart}
+use Rattle.rule_basics.specs.Live.{EachRequest, EachApart}
 use Rattle.request_laws.specs.Requested.{IsRequested}
 use Rattle.request_laws.proofs.Givings.{GivesNext, gives_next}
 use Rattle.request_laws.proofs.Events.{requested_journal}
@@ -104,9 +104,9 @@ gentle_still : (rows : List Row) → AreGentle rows → AreStill rows
 gentle_still [] h = tt
 gentle_still (r ∷ rows) h = (gentle_one r h.0, gentle_still rows h.1)
 
-same_pair : (f : ℕ) (s : ModuleState) (o : Option Attached) → has_oid_pair (option_map (with_state f s) o) ≡ has_oid_pair o
+same_pair : (f : ℕ) (s : ModuleState) (o : Option Attached) → (handlers_of (option_map (with_state f s) o)).oid ≡ (handlers_of o).oid
 same_pair f s None = refl
-same_pair f s (Some a) = elim (a.filter == f) as (λ b. has_oid_pair (Some (cond b (record a { state = s }) a)) ≡ has_oid_pair (Some a)) [ true ↦ refl | false ↦ refl ]
+same_pair f s (Some a) = elim (a.filter == f) as (λ b. (handlers_of (Some (cond b (record a { state = s }) a))).oid ≡ (handlers_of (Some a)).oid) [ true ↦ refl | false ↦ refl ]
 
 gentle_oid : (net : Net) (r : Row) → is_gentle r ≡ true → (f : ℕ) → has_oid (after net r).modules f ≡ has_oid net.modules f
 gentle_oid net (row.Phase (of.Module Miniport s)) g f = refl
@@ -114,8 +114,8 @@ gentle_oid net (row.Phase (of.Module (Binding b) s)) g f = refl
 gentle_oid net (row.Phase (of.Module (Filter k) s)) g f =
     let entries : List Attached = net.modules.filters in
     let stays : is_detached s ≡ false = off (is_detached s) g in
-    ap (λ b. has_oid_pair (attached f (cond b (filter (λ a. not (a.filter == k)) entries) (map (with_state k s) entries)))) stays
-    ∙ ap has_oid_pair (attached-with_state f k s entries)
+    ap (λ b. (handlers_of (attached f (cond b (filter (λ a. not (a.filter == k)) entries) (map (with_state k s) entries)))).oid) stays
+    ∙ ap (λ o. (handlers_of o).oid) (attached-with_state f k s entries)
     ∙ same_pair k s (attached f entries)
   where
     off : (b : Bool) → not b ≡ true → b ≡ false
@@ -309,7 +309,7 @@ module _ (net : Net) (a : EachApart net.requests) (h : IsServing net) where
 
   drain_serving : (keeps : Bool) → IsServing (after_rows net (drain_outcome net keeps).rows)
   drain_serving keeps =
-      by_test (λ (o : Outcome). IsServing (after_rows net o.rows)) (pump_moves net) _ _ (λ _. pump_serving keeps)
+      by_test (λ (o : Outcome). IsServing (after_rows net o.rows)) (is_pump_moving net) _ _ (λ _. pump_serving keeps)
       (λ _. calm_rows net (drained (drain_rows net)).rows (calm_drained net) h)
 
 event_serving : (net : Net) (s : IsShaped net) (a : EachApart net.requests) (e : Event) (c : Choice) → IsServing net → IsServing (state_after net e (outcome net e c))

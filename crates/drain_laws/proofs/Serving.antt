@@ -14,12 +14,12 @@ use Rattle.stack_rules.specs.declared.RequestAt.{RequestAt}
 use Rattle.stack_rules.specs.declared.RequestAt.TheVariants as at
 use Rattle.stack_rules.specs.declared.Thing.{Thing}
 use Rattle.stack_rules.specs.declared.Thing.TheVariants as thing
-use Rattle.stack_rules.specs.Net.{Net, Modules, after, after_rows, answers, answer_to, below, first_oid, given_to, has_oid, place_below, place_of_clone, place_of_request, request_of, things_done}
+use Rattle.stack_rules.specs.Net.{Net, Modules, after, after_rows, is_answer_to, after_answer, below, first_oid, given_to, has_oid, place_below, place_of_clone, place_of_request, request_of, things_after_done}
 use Rattle.stack_rules.specs.Outcome.{oid_no}
 use Rattle.stack_rules.specs.OidTable.{report_of}
 use Rattle.stack_rules.specs.Requests.{Giving, given_rows_by, giving_rows}
 use Rattle.stack_rules.specs.Rewires.{is_in}
-use Rattle.place_laws.specs.Kept.{EachRequest, EachApart}
+use Rattle.rule_basics.specs.Live.{EachRequest, EachApart}
 use Rattle.request_laws.proofs.Answers.{answered}
 use Rattle.request_laws.proofs.Finds.{EachRequest-implies, found_by_number, found_given, apart_given}
 use Rattle.request_laws.proofs.Givings.{GivesNext}
@@ -167,7 +167,7 @@ left_or_done k n (q ∷ rs) a h = by (q.request.0 == n) (is_clone k q.parent) re
         on (inr d) = inr d
 
 -- answers to others are left
-others_answered : (k n : ℕ) (ts : List Thing) → (k == n) ≡ false → has_answer k ts ≡ true → has_answer k (filter (λ t. not (answers n t)) ts) ≡ true
+others_answered : (k n : ℕ) (ts : List Thing) → (k == n) ≡ false → has_answer k ts ≡ true → has_answer k (filter (λ t. not (is_answer_to n t)) ts) ≡ true
 others_answered k n [] e h = h
 others_answered k n (thing.List l ∷ ts) e h = others_answered k n ts e h
 others_answered k n (thing.Status s ∷ ts) e h = others_answered k n ts e h
@@ -176,30 +176,30 @@ others_answered k n (thing.Answer a ∷ ts) e h = by (a.parent.0 == n) (a.parent
     clash : (p : ℕ) → (p == n) ≡ true → (p == k) ≡ true → (k == n) ≡ false → ⊥
     clash p t u e = grind (arith, nat_tests)
 
-    by : (b c : Bool) → (a.parent.0 == n) ≡ b → (a.parent.0 == k) ≡ c → (c || has_answer k ts) ≡ true → (has_answer k ts ≡ true → has_answer k (filter (λ t. not (answers n t)) ts) ≡ true) → has_answer k (cond (not b) (thing.Answer a ∷ filter (λ t. not (answers n t)) ts) (filter (λ t. not (answers n t)) ts)) ≡ true
+    by : (b c : Bool) → (a.parent.0 == n) ≡ b → (a.parent.0 == k) ≡ c → (c || has_answer k ts) ≡ true → (has_answer k ts ≡ true → has_answer k (filter (λ t. not (is_answer_to n t)) ts) ≡ true) → has_answer k (cond (not b) (thing.Answer a ∷ filter (λ t. not (is_answer_to n t)) ts) (filter (λ t. not (is_answer_to n t)) ts)) ≡ true
     by true true t u h rest = absurd (clash a.parent.0 t u e)
     by true false t u h rest = rest h
     by false true t u h rest = or_left (a.parent.0 == k) _ u
     by false false t u h rest = or_right (a.parent.0 == k) _ (rest h)
 
 push_answer : (k : ℕ) (ts more : List Thing) → has_answer k ts ≡ true → has_answer k (ts ++ more) ≡ true
-push_answer k ts more h = list_any-append (answers k) ts more ∙ or_left (has_answer k ts) (has_answer k more) h
+push_answer k ts more h = list_any-append (is_answer_to k) ts more ∙ or_left (has_answer k ts) (has_answer k more) h
 
 -- the answers after a request is done
-answer_left : (k n : ℕ) (o : Option Request) (request : OidNo) (status : OidStatus) (value : List ℕ) (ts : List Thing) → request.0 ≡ n → (k == n) ≡ false → has_answer k ts ≡ true → has_answer k (things_done o request status value ts) ≡ true
+answer_left : (k n : ℕ) (o : Option Request) (request : OidNo) (status : OidStatus) (value : List ℕ) (ts : List Thing) → request.0 ≡ n → (k == n) ≡ false → has_answer k ts ≡ true → has_answer k (things_after_done o request status value ts) ≡ true
 answer_left k n None request status value ts i e h = h
 answer_left k n (Some c) request status value ts i e h = by c.parent
   where
-    others : has_answer k (filter (λ t. not (answers request.0 t)) ts) ≡ true
+    others : has_answer k (filter (λ t. not (is_answer_to request.0 t)) ts) ≡ true
     others = others_answered k request.0 ts (ap (λ m. k == m) i ∙ e) h
 
-    by : (p : Option OidNo) → has_answer k (answer_to p request status value (filter (λ t. not (answers request.0 t)) ts)) ≡ true
+    by : (p : Option OidNo) → has_answer k (after_answer p request status value (filter (λ t. not (is_answer_to request.0 t)) ts)) ≡ true
     by None = others
-    by (Some p) = push_answer k (filter (λ t. not (answers request.0 t)) ts) _ others
+    by (Some p) = push_answer k (filter (λ t. not (is_answer_to request.0 t)) ts) _ others
 
-answer_new : (k : ℕ) (p : Option OidNo) (request : OidNo) (status : OidStatus) (value : List ℕ) (ts : List Thing) → is_clone k p ≡ true → has_answer k (answer_to p request status value ts) ≡ true
+answer_new : (k : ℕ) (p : Option OidNo) (request : OidNo) (status : OidStatus) (value : List ℕ) (ts : List Thing) → is_clone k p ≡ true → has_answer k (after_answer p request status value ts) ≡ true
 answer_new k None request status value ts h = cc
-answer_new k (Some p) request status value ts h = list_any-append (answers k) ts _ ∙ or_right (has_answer k ts) _ (or_left (p.0 == k) false h)
+answer_new k (Some p) request status value ts h = list_any-append (is_answer_to k) ts _ ∙ or_right (has_answer k ts) _ (or_left (p.0 == k) false h)
 
 done_served : (net : Net) (request : OidNo) (status : OidStatus) (value : List ℕ) (k : ℕ) → EachApart net.requests → (k == request.0) ≡ false → is_served net k ≡ true → is_served (after net (row.OidDone request status value)) k ≡ true
 done_served net request status value k a e h = by (has_clone_of k net.requests) refl h
@@ -211,7 +211,7 @@ done_served net request status value k a e h = by (has_clone_of k net.requests) 
     cloned (inl l) = or_left (has_clone_of k (after net (row.OidDone request status value)).requests) _ l
     cloned (inr d) =
         or_right (has_clone_of k (after net (row.OidDone request status value)).requests) _
-        (subst (λ o. has_answer k (things_done o request status value net.things) ≡ true) (sym d.1) (answer_new k d.0.parent request status value (filter (λ t. not (answers request.0 t)) net.things) d.2))
+        (subst (λ o. has_answer k (things_after_done o request status value net.things) ≡ true) (sym d.1) (answer_new k d.0.parent request status value (filter (λ t. not (is_answer_to request.0 t)) net.things) d.2))
 
     by : (b : Bool) → has_clone_of k net.requests ≡ b → (b || has_answer k net.things) ≡ true → is_served (after net (row.OidDone request status value)) k ≡ true
     by true t h = cloned (left_or_done k request.0 net.requests a t)

@@ -58,9 +58,9 @@ IdleWhereDone =
     (head : StackHead) (turns : List Turn) (turn : Turn) → Sound head turns → Next (seen head turns) turn → (seen head turns).phase ≡ Pausing → NoneCrossed (seen head turns) →
     turn.event ≡ event.Drain → (turn.reply ≡ reply.Idle) ↔ (work (seen head turns) ≡ 0)
 
-abbrev pub is_waiting : Reply → Bool
-is_waiting (reply.Waiting n) = true
-is_waiting _ = false
+abbrev pub is_waiting_reply : Reply → Bool
+is_waiting_reply (reply.Waiting n) = true
+is_waiting_reply _ = false
 
 abbrev pub ends_pause : Reply → Bool
 ends_pause reply.Paused = true
@@ -71,7 +71,7 @@ ends_pause _ = false
 abbrev pub PausesAndDrains : Bool → List Turn → Type 0
 PausesAndDrains due [] = Unit {0}
 PausesAndDrains true (turn ∷ more) = (turn.event ≡ event.Drain) × PausesAndDrains false more
-PausesAndDrains false (turn ∷ more) = (turn.event ≡ event.PauseNext) × (ends_pause turn.reply ≡ true → more ≡ []) × PausesAndDrains (is_waiting turn.reply) more
+PausesAndDrains false (turn ∷ more) = (turn.event ≡ event.PauseNext) × (ends_pause turn.reply ≡ true → more ≡ []) × PausesAndDrains (is_waiting_reply turn.reply) more
 
 -- the turn goes on with the pause
 abbrev pub goes_on : Reply → Bool

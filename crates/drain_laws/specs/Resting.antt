@@ -8,9 +8,10 @@ use Rattle.stack_rules.specs.declared.LiveList.{LiveList}
 use Rattle.stack_rules.specs.declared.Stand.{Stand}
 use Rattle.stack_rules.specs.declared.Stand.TheVariants as stand
 use Rattle.stack_rules.specs.Tests.{is_retain}
-use Rattle.stack_rules.specs.Net.{Net, binding_numbers, kind_of_binding, lists, seen}
+use Rattle.stack_rules.specs.Heads.{binding_numbers, kind_of_binding}
+use Rattle.stack_rules.specs.Net.{Net, lists, seen}
 use Rattle.stack_rules.specs.Places.{has_clone}
-use Rattle.stack_rules.specs.Cancels.{holds_lists}
+use Rattle.stack_rules.specs.Cancels.{is_hold_filter}
 use Rattle.stack_rules.specs.Rewires.{is_in}
 use Rattle.stack_rules.specs.Sound.{Sound}
 use Rattle.rule_basics.specs.Live.{Each}
@@ -19,7 +20,7 @@ use Rattle.rule_basics.specs.Live.{Each}
 -- keeps what it is given; the miniport keeps its ring
 abbrev pub MayKeep : Net → Bool → ModuleId → Type 0
 MayKeep net cloned Miniport = Unit {0}
-MayKeep net cloned (Filter f) = (holds_lists net.modules f ≡ true) ⊎ (cloned ≡ true)
+MayKeep net cloned (Filter f) = (is_hold_filter net.modules f ≡ true) ⊎ (cloned ≡ true)
 MayKeep net cloned (Binding b) = (is_in b (binding_numbers net.head) ≡ true) × (is_retain (kind_of_binding net.head b) ≡ true)
 
 abbrev pub Rests : Net → Bool → Stand → Type 0

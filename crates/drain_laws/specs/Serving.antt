@@ -10,10 +10,10 @@ use Rattle.stack_rules.specs.declared.Request.{Request}
 use Rattle.stack_rules.specs.declared.RequestAt.{RequestAt}
 use Rattle.stack_rules.specs.declared.RequestAt.TheVariants as at
 use Rattle.stack_rules.specs.declared.Thing.{Thing}
-use Rattle.stack_rules.specs.Net.{Net, Modules, answers, has_oid, seen}
+use Rattle.stack_rules.specs.Net.{Net, Modules, is_answer_to, has_oid, seen}
 use Rattle.stack_rules.specs.Rewires.{is_in}
 use Rattle.stack_rules.specs.Sound.{Sound}
-use Rattle.place_laws.specs.Kept.{EachRequest}
+use Rattle.rule_basics.specs.Live.{EachRequest}
 
 -- a module that takes requests: the miniport, or a filter of the order with the OID pair
 abbrev pub Takes : Modules → ModuleId → Type 0
@@ -30,7 +30,7 @@ abbrev pub has_clone_of : ℕ → List Request → Bool
 has_clone_of n rs = list_any (λ r. is_clone n r.parent) rs
 
 abbrev pub has_answer : ℕ → List Thing → Bool
-has_answer n ts = list_any (answers n) ts
+has_answer n ts = list_any (is_answer_to n) ts
 
 abbrev pub is_served : Net → ℕ → Bool
 is_served net n = has_clone_of n net.requests || has_answer n net.things

@@ -7,7 +7,7 @@ ghost use Rattle.stack_rules.specs.Net.{lists, seen};
 ghost use Rattle.stack_rules.specs.Places.{is_crossed};
 ghost use Rattle.stack_rules.specs.Sound.{Sound};
 ghost use Rattle.rule_basics.specs.Live.{Each};
-ghost use Rattle.drain_laws.specs.Drains.{ends_pause, is_draining, is_waiting, NoneCrossed, PausesAndDrains};
+ghost use Rattle.drain_laws.specs.Drains.{ends_pause, is_draining, is_waiting_reply, NoneCrossed, PausesAndDrains};
 ghost use Rattle.drain_rows.specs.Laws.{MeetsLaws};
 
 use crate::states::{first_turns, other_turns, state_after};
@@ -73,7 +73,7 @@ fn is_step(event: &Event) -> bool
 }
 
 fn is_waiting(reply: &Reply) -> bool
-    ensures { result ≡ is_waiting reply.now }
+    ensures { result ≡ is_waiting_reply reply.now }
 {
     matches!(reply, Reply::Waiting { .. })
 }

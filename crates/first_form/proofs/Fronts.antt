@@ -10,7 +10,7 @@ use Rattle.stack_rules.specs.declared.Stand.TheVariants as stand
 use Rattle.stack_rules.specs.declared.LiveList.{LiveList}
 use Rattle.stack_rules.specs.declared.Thing.TheVariants as thing
 use Rattle.stack_rules.specs.Net.{Net, lists, list_of}
-use Rattle.stack_rules.specs.Places.{agenda_first, kept_lists, waits, is_passed, is_kept_by}
+use Rattle.stack_rules.specs.Places.{agenda_first, kept_lists, is_waiting, is_passed, is_kept_by}
 use Rattle.first_form.specs.First.{IsFirst, IsFirstList}
 use Rattle.first_form.proofs.Lists.{found_fits, IsFound, IsFirstAway, first_away, IsKeptIn, first_kept_list}
 use Rattle.first_form.proofs.Moves.{fit_of}
@@ -58,7 +58,7 @@ pub record IsNextKept (net : Net) (l : LiveList) : Type 0 where
   pub found : list_of l.list.0 (lists net.things) ≡ Some l
   pub below : l.list.0 < net.next.list
   pub stand : l.stand ≡ stand.Kept Miniport
-  pub ready : waits net l ≡ false
+  pub ready : is_waiting net l ≡ false
 
 kept_is_not_passed : (m : ModuleId) (s : Stand) → is_kept_by m s ≡ true → is_passed s ≡ false
 kept_is_not_passed m stand.Unplaced e = refl

@@ -21,7 +21,7 @@ use Rattle.stack_rules.specs.declared.LiveList.{LiveList}
 use Rattle.stack_rules.specs.declared.Thing.{Thing}
 use Rattle.stack_rules.specs.declared.Thing.TheVariants as thing
 use Rattle.stack_rules.specs.Tests.{phase_is_halted, phase_is_paused, phase_is_running, phase_is_pausing, phase_is_restarting}
-use Rattle.stack_rules.specs.Net.{Net, Counters, passed, after_rows, after_turn, told}
+use Rattle.stack_rules.specs.Net.{Net, Counters, after_pass, after_rows, after_turn, told}
 use Rattle.stack_rules.specs.Places.{agenda_first, is_full, outstanding}
 use Rattle.stack_rules.specs.Outcome.{Outcome, root, list_no}
 use Rattle.stack_rules.specs.Conditions.{may_ask, has_binding}
@@ -100,7 +100,7 @@ pub sent_is : (net : Net) (binding : ℕ) (cancel : Option ℕ) (frames : List (
 sent_is net binding cancel frames h =
     let issued : LiveList = record (sent_list net binding cancel frames) { stand = stand.Unplaced } in
     let absent : found net.next.list net.things ≡ None = next_absent net.head net.next.list net.things (fit_of net h) in
-    let things : passed net.next.list way.Down (Module Miniport) (net.things ++ thing.List issued ∷ []) ≡ net.things ++ thing.List (sent_list net binding cancel frames) ∷ [] =
+    let things : after_pass net.next.list way.Down (Module Miniport) (net.things ++ thing.List issued ∷ []) ≡ net.things ++ thing.List (sent_list net binding cancel frames) ∷ [] =
     passed_is net.next.list way.Down (Module Miniport) (net.things ++ thing.List issued ∷ []) issued (found-push net.things issued absent)
     ∙ ap (λ ts. ts ++ thing.List (sent_list net binding cancel frames) ∷ []) (without-push net.things issued absent) in
     ap (after_rows net) (sent_rows_are net binding cancel frames h)

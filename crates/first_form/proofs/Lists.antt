@@ -8,7 +8,7 @@ use Rattle.journal_types.specs.declared.StackHead.{StackHead}
 use Rattle.stack_rules.specs.declared.LiveList.{LiveList}
 use Rattle.stack_rules.specs.declared.Thing.{Thing}
 use Rattle.stack_rules.specs.declared.Thing.TheVariants as thing
-use Rattle.stack_rules.specs.Net.{lists, list_of, without, changed, had_by}
+use Rattle.stack_rules.specs.Net.{lists, list_of, without, after_change, had_by}
 use Rattle.stack_rules.specs.Places.{is_away, is_passed, is_kept_by}
 use Rattle.first_form.specs.First.{IsFirstList, IsFirstThing, OtherNumber}
 
@@ -125,23 +125,23 @@ without-push (thing.Status s ∷ ts) x h = ap (λ us. thing.Status s ∷ us) (wi
 without-push (thing.Answer a ∷ ts) x h = ap (λ us. thing.Answer a ∷ us) (without-push ts x h)
 without-push (thing.List y ∷ ts) x h = grind (arith, nat_tests, without-push ts x)
 
-pub found-changed : (n : ℕ) (m : ModuleId) (ts : List Thing) (l : LiveList) → found n ts ≡ Some l → found n (changed n (had_by m) ts) ≡ Some (record l { last = m })
+pub found-changed : (n : ℕ) (m : ModuleId) (ts : List Thing) (l : LiveList) → found n ts ≡ Some l → found n (after_change n (had_by m) ts) ≡ Some (record l { last = m })
 found-changed n m [] l h = cc
 found-changed n m (thing.Status s ∷ ts) l h = found-changed n m ts l h
 found-changed n m (thing.Answer a ∷ ts) l h = found-changed n m ts l h
 found-changed n m (thing.List y ∷ ts) l h =
-    let cases : (b : Bool) → (y.list.0 == n) ≡ b → cond b (Some y) (found n ts) ≡ Some l → found n (cond b (thing.List (had_by m y)) (thing.List y) ∷ changed n (had_by m) ts) ≡ Some (record l { last = m }) = elim [
+    let cases : (b : Bool) → (y.list.0 == n) ≡ b → cond b (Some y) (found n ts) ≡ Some l → found n (cond b (thing.List (had_by m y)) (thing.List y) ∷ after_change n (had_by m) ts) ≡ Some (record l { last = m }) = elim [
       | true ↦ λ t f. rw t (ap {A = LiveList} (λ x. Some (had_by m x)) (some_same y l f))
       | false ↦ λ t f. rw t (found-changed n m ts l f)
     ] in
     cases (y.list.0 == n) refl h
 
-pub without-changed : (n : ℕ) (m : ModuleId) (ts : List Thing) → without n (changed n (had_by m) ts) ≡ without n ts
+pub without-changed : (n : ℕ) (m : ModuleId) (ts : List Thing) → without n (after_change n (had_by m) ts) ≡ without n ts
 without-changed n m [] = refl
 without-changed n m (thing.Status s ∷ ts) = ap (λ us. thing.Status s ∷ us) (without-changed n m ts)
 without-changed n m (thing.Answer a ∷ ts) = ap (λ us. thing.Answer a ∷ us) (without-changed n m ts)
 without-changed n m (thing.List y ∷ ts) =
-    let cases : (b : Bool) → (y.list.0 == n) ≡ b → without n (cond b (thing.List (had_by m y)) (thing.List y) ∷ changed n (had_by m) ts) ≡ cond (not b) (thing.List y ∷ without n ts) (without n ts) = elim [
+    let cases : (b : Bool) → (y.list.0 == n) ≡ b → without n (cond b (thing.List (had_by m y)) (thing.List y) ∷ after_change n (had_by m) ts) ≡ cond (not b) (thing.List y ∷ without n ts) (without n ts) = elim [
       | true ↦ λ t. rw t (without-changed n m ts)
       | false ↦ λ t. rw t (ap (λ us. thing.List y ∷ us) (without-changed n m ts))
     ] in

@@ -21,7 +21,8 @@ use Rattle.stack_rules.specs.declared.LiveList.{LiveList}
 use Rattle.stack_rules.specs.declared.Thing.{Thing}
 use Rattle.stack_rules.specs.declared.Thing.TheVariants as thing
 use Rattle.stack_rules.specs.Tests.{same_module}
-use Rattle.stack_rules.specs.Net.{Net, Port, without, changed, had_by, at_end, kept, kept_by, passed, passed_to, after, after_rows}
+use Rattle.stack_rules.specs.Port.{Port}
+use Rattle.stack_rules.specs.Net.{Net, without, after_change, had_by, at_end, after_keep, as_kept, after_pass, as_passed, after, after_rows}
 use Rattle.stack_rules.specs.Places.{position, is_passed, is_kept_by, kept_lists, agenda_first}
 use Rattle.stack_rules.specs.Targets.{homeward}
 use Rattle.stack_rules.specs.Sends.{ring_is_full, miniport_rows, looped, transmitted}
@@ -38,17 +39,17 @@ fit_of net h = Fit-from net.head net.next.list net.things h.things h.apart h.bel
 
 -- one list is given and kept, passed, given and passed, or given, turned back and passed
 pub kept_is : (n : ℕ) (m : ModuleId) (ts : List Thing) (l : LiveList) → found n ts ≡ Some l →
-    kept n m (changed n (had_by m) ts) ≡ without n ts ++ thing.List (record l { last = m; stand = stand.Kept m }) ∷ []
-kept_is n m ts l f = ap₂ (λ us o. at_end us (kept_by m o)) (without-changed n m ts) (found-changed n m ts l f)
+    after_keep n m (after_change n (had_by m) ts) ≡ without n ts ++ thing.List (record l { last = m; stand = stand.Kept m }) ∷ []
+kept_is n m ts l f = ap₂ (λ us o. at_end us (as_kept m o)) (without-changed n m ts) (found-changed n m ts l f)
 
 pub passed_is : (n : ℕ) (way : PassWay) (to : Target) (ts : List Thing) (l : LiveList) → found n ts ≡ Some l →
-    passed n way to ts ≡ without n ts ++ thing.List (record l { stand = stand.Passed way to; crossed = None }) ∷ []
-passed_is n way to ts l f = ap (λ o. at_end (without n ts) (passed_to way to o)) f
+    after_pass n way to ts ≡ without n ts ++ thing.List (record l { stand = stand.Passed way to; crossed = None }) ∷ []
+passed_is n way to ts l f = ap (λ o. at_end (without n ts) (as_passed way to o)) f
 
 pub turned_is : (n : ℕ) (m : ModuleId) (way : PassWay) (to : Target) (ts : List Thing) (l : LiveList) → found n ts ≡ Some l →
-    passed n way to (changed n (had_by m) (changed n (had_by m) ts)) ≡ without n ts ++ thing.List (record l { last = m; stand = stand.Passed way to; crossed = None }) ∷ []
+    after_pass n way to (after_change n (had_by m) (after_change n (had_by m) ts)) ≡ without n ts ++ thing.List (record l { last = m; stand = stand.Passed way to; crossed = None }) ∷ []
 turned_is n m way to ts l f =
-    ap₂ (λ us o. at_end us (passed_to way to o)) (without-changed n m (changed n (had_by m) ts) ∙ without-changed n m ts) (found-changed n m (changed n (had_by m) ts) _ (found-changed n m ts l f))
+    ap₂ (λ us o. at_end us (as_passed way to o)) (without-changed n m (after_change n (had_by m) ts) ∙ without-changed n m ts) (found-changed n m (after_change n (had_by m) ts) _ (found-changed n m ts l f))
 
 -- the lists and the port alone change, and there was one
 pub record Advances (net other : Net) : Type 0 where

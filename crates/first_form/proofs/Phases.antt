@@ -15,8 +15,9 @@ use Rattle.stack_rules.specs.declared.Thing.{Thing}
 use Rattle.stack_rules.specs.declared.Thing.TheVariants as thing
 use Rattle.stack_rules.specs.declared.Request.{Request}
 use Rattle.stack_rules.specs.Tests.{phase_is_paused, is_paused, is_running, is_halted}
-use Rattle.stack_rules.specs.Net.{Net, Modules, Port, lists, first_port, port_after, after, after_rows}
-use Rattle.stack_rules.specs.Places.{position, counts_at, outstanding, position_in, is_at_most}
+use Rattle.stack_rules.specs.Port.{Port, first_port}
+use Rattle.stack_rules.specs.Net.{Net, Modules, lists, port_after, after, after_rows}
+use Rattle.stack_rules.specs.Places.{position, is_counted_at, outstanding, position_in, is_at_most}
 use Rattle.stack_rules.specs.Outcome.{config_no}
 use Rattle.stack_rules.specs.Pauses.{binding_ids, one, floors, state_row, state_rows, initialize_rows, all_are, count_front, first_unpaused, paused_rows, running_floors, restart_rows, is_status_thing, halt_items, halt_rows}
 use Rattle.first_form.specs.First.{IsFirst, PhaseFits, bindings_are}
@@ -135,22 +136,22 @@ bottom_paused net h b none =
 pub all_count : (net : Net) → IsFirst net → outstanding net 0 ≡ length net.things
 all_count net h = counts net.things (fit_of net h)
   where
-    one_counts : (l : LiveList) (b : ℕ) → l.owner ≡ Binding b → counts_at net.modules.order 0 l ≡ true
+    one_counts : (l : LiveList) (b : ℕ) → l.owner ≡ Binding b → is_counted_at net.modules.order 0 l ≡ true
     one_counts l b e = ap (λ o. (position net.modules.order o == 0) || is_at_most 0 (position_in net.modules.order l.last l.stand)) e
 
-    counts : (ts : List Thing) → Fit net.head net.next.list ts → count_by (counts_at net.modules.order 0) (lists ts) ≡ length ts
+    counts : (ts : List Thing) → Fit net.head net.next.list ts → count_by (is_counted_at net.modules.order 0) (lists ts) ≡ length ts
     counts [] f = refl
     counts (thing.Status s ∷ ts) f = absurd f
     counts (thing.Answer a ∷ ts) f = absurd f
     counts (thing.List l ∷ ts) f =
-        let here : counts_at net.modules.order 0 l ≡ true = one_counts l f.0.first.binding f.0.first.owner in
-        let rest : count_by (counts_at net.modules.order 0) (lists ts) ≡ length ts = counts ts f.1 in
-        let weight : cond {A = ℕ} (counts_at net.modules.order 0 l) 1 0 ≡ 1 = ap (λ b. cond {A = ℕ} b 1 0) here in
-        omega (arith, sum_by-cons (λ k. cond (counts_at net.modules.order 0 k) 1 0) l (lists ts))
+        let here : is_counted_at net.modules.order 0 l ≡ true = one_counts l f.0.first.binding f.0.first.owner in
+        let rest : count_by (is_counted_at net.modules.order 0) (lists ts) ≡ length ts = counts ts f.1 in
+        let weight : cond {A = ℕ} (is_counted_at net.modules.order 0 l) 1 0 ≡ 1 = ap (λ b. cond {A = ℕ} b 1 0) here in
+        omega (arith, sum_by-cons (λ k. cond (is_counted_at net.modules.order 0 k) 1 0) l (lists ts))
 
 -- where nothing is left, nothing is outstanding
 pub none_count : (net : Net) (i : ℕ) → net.things ≡ [] → outstanding net i ≡ 0
-none_count net i e = ap (λ ts. count_by (counts_at net.modules.order i) (lists ts)) e
+none_count net i e = ap (λ ts. count_by (is_counted_at net.modules.order i) (lists ts)) e
 
 -- which position a pause is at
 pub at_top : (net : Net) → IsFirst net → bindings_are net state.Pausing → first_unpaused net ≡ 0

@@ -21,13 +21,14 @@ use Rattle.stack_rules.specs.declared.LiveList.{LiveList}
 use Rattle.stack_rules.specs.declared.Thing.{Thing}
 use Rattle.stack_rules.specs.declared.Thing.TheVariants as thing
 use Rattle.stack_rules.specs.Tests.{is_virtual, is_retain, phase_is_running}
-use Rattle.stack_rules.specs.Net.{Net, lists, kind_of_binding, binding_numbers}
-use Rattle.stack_rules.specs.Places.{is_away, is_passed, is_kept_by, is_clone_of, is_crossed, has_clone, waits, kept_lists, ready_lists, agenda, agenda_first}
+use Rattle.stack_rules.specs.Heads.{kind_of_binding, binding_numbers}
+use Rattle.stack_rules.specs.Net.{Net, lists}
+use Rattle.stack_rules.specs.Places.{is_away, is_passed, is_kept_by, is_clone_of, is_crossed, has_clone, is_waiting, kept_lists, ready_lists, agenda, agenda_first}
 use Rattle.stack_rules.specs.Targets.{turned_back}
 use Rattle.stack_rules.specs.Outcome.{Outcome, answered}
 use Rattle.stack_rules.specs.Requests.{next_giving}
 use Rattle.stack_rules.specs.Sends.{transmitted, transmit_of, first_of, transmit_outcome}
-use Rattle.stack_rules.specs.Pumps.{thing_rows, pump_of, pump_outcome, pump_moves, request_pump}
+use Rattle.stack_rules.specs.Pumps.{thing_rows, pump_of, pump_outcome, is_pump_moving, request_pump}
 use Rattle.stack_rules.specs.Drains.{returned_by, returns_all, passes_all, empties, empties_ring, first_rows, drain_rows, drained, drain_outcome}
 use Rattle.first_form.specs.First.{IsFirst, IsFirstHead, IsFirstList, IsFirstStand}
 use Rattle.first_form.proofs.Lists.{Fit}
@@ -67,16 +68,16 @@ no_clone net n h = none net.things (fit_of net h)
         rw here (none ts f.1)
 
 -- and none waits
-pub none_waits : (net : Net) (l : LiveList) → IsFirst net → IsFirstList net.head l → waits net l ≡ false
+pub none_waits : (net : Net) (l : LiveList) → IsFirst net → IsFirstList net.head l → is_waiting net l ≡ false
 none_waits net l h f = ap₂ (λ c b. is_crossed c || b) f.here (no_clone net l.list.0 h)
 
-all_ready : (net : Net) (m : ModuleId) (xs : List LiveList) → All (λ l. waits net l ≡ false) xs →
-    filter (λ l. not (waits net l)) (filter (λ l. is_kept_by m l.stand) xs) ≡ filter (λ l. is_kept_by m l.stand) xs
+all_ready : (net : Net) (m : ModuleId) (xs : List LiveList) → All (λ l. is_waiting net l ≡ false) xs →
+    filter (λ l. not (is_waiting net l)) (filter (λ l. is_kept_by m l.stand) xs) ≡ filter (λ l. is_kept_by m l.stand) xs
 all_ready net m [] h = refl
 all_ready net m (x ∷ xs) h =
-    let here : waits net x ≡ false = All-head (λ l. waits net l ≡ false) x xs h in
-    let rest : filter (λ l. not (waits net l)) (filter (λ l. is_kept_by m l.stand) xs) ≡ filter (λ l. is_kept_by m l.stand) xs = all_ready net m xs (All-tail (λ l. waits net l ≡ false) x xs h) in
-    let cases : (b : Bool) → filter (λ l. not (waits net l)) (cond b (x ∷ filter (λ l. is_kept_by m l.stand) xs) (filter (λ l. is_kept_by m l.stand) xs)) ≡ cond b (x ∷ filter (λ l. is_kept_by m l.stand) xs) (filter (λ l. is_kept_by m l.stand) xs) = elim [
+    let here : is_waiting net x ≡ false = All-head (λ l. is_waiting net l ≡ false) x xs h in
+    let rest : filter (λ l. not (is_waiting net l)) (filter (λ l. is_kept_by m l.stand) xs) ≡ filter (λ l. is_kept_by m l.stand) xs = all_ready net m xs (All-tail (λ l. is_waiting net l ≡ false) x xs h) in
+    let cases : (b : Bool) → filter (λ l. not (is_waiting net l)) (cond b (x ∷ filter (λ l. is_kept_by m l.stand) xs) (filter (λ l. is_kept_by m l.stand) xs)) ≡ cond b (x ∷ filter (λ l. is_kept_by m l.stand) xs) (filter (λ l. is_kept_by m l.stand) xs) = elim [
       | true ↦ ap₂ (λ b ys. cond (not b) (x ∷ ys) ys) here rest
       | false ↦ rest
     ] in
@@ -159,10 +160,10 @@ pump_idle net keeps h e = ap (pump_of net keeps) e ∙ ap (request_pump net) (no
 pub pump_works : (net : Net) (keeps : Bool) (t : Thing) → agenda_first net ≡ Some t → pump_outcome net keeps ≡ record { reply = reply.Moved; rows = thing_rows net t keeps }
 pump_works net keeps t e = ap (pump_of net keeps) e
 
-pub pump_still : (net : Net) → IsFirst net → agenda_first net ≡ None → pump_moves net ≡ false
+pub pump_still : (net : Net) → IsFirst net → agenda_first net ≡ None → is_pump_moving net ≡ false
 pump_still net h e = ap₂ (λ o p. is_some o || is_some p) e (no_requests net h.requests)
 
-pub pump_busy : (net : Net) (t : Thing) → agenda_first net ≡ Some t → pump_moves net ≡ true
+pub pump_busy : (net : Net) (t : Thing) → agenda_first net ≡ Some t → is_pump_moving net ≡ true
 pump_busy net t e = ap (λ o. is_some o || is_some (next_giving net)) e
 
 -- a log protocol keeps nothing, so a drain passes all bindings by
@@ -190,13 +191,13 @@ ring_rows : (net : Net) (ls : List LiveList) → IsFirst net → kept_lists net 
 ring_rows net ls h e = ap (λ ks. empties net (first_of ks)) (ready_are net Miniport h ∙ e)
 
 -- a drain of a ring that keeps nothing, where nothing is on its way
-pub drain_idle : (net : Net) (keeps : Bool) → IsFirst net → pump_moves net ≡ false → kept_lists net Miniport ≡ [] → drain_outcome net keeps ≡ answered reply.Idle
+pub drain_idle : (net : Net) (keeps : Bool) → IsFirst net → is_pump_moving net ≡ false → kept_lists net Miniport ≡ [] → drain_outcome net keeps ≡ answered reply.Idle
 drain_idle net keeps h still none =
     let rows : drain_rows net ≡ [] = drain_rows_are net h ∙ ap (λ r. first_rows (r ∷ [])) (ring_rows net [] h none) in
     ap₂ (λ b rows. cond b (pump_outcome net keeps) (drained rows)) still rows
 
 -- a drain of a ring that keeps a list, where nothing is on its way
-pub drain_wires : (net : Net) (keeps : Bool) (l : LiveList) (rest : List LiveList) → IsFirst net → pump_moves net ≡ false → kept_lists net Miniport ≡ l ∷ rest → drain_outcome net keeps ≡ record { reply = reply.Moved; rows = transmitted net l }
+pub drain_wires : (net : Net) (keeps : Bool) (l : LiveList) (rest : List LiveList) → IsFirst net → is_pump_moving net ≡ false → kept_lists net Miniport ≡ l ∷ rest → drain_outcome net keeps ≡ record { reply = reply.Moved; rows = transmitted net l }
 drain_wires net keeps l rest h still some =
     let ring : empties_ring net ≡ transmitted net l = ring_rows net (l ∷ rest) h some ∙ ap (λ k. cond (is_virtual k) (cond (phase_is_running net.phase) [] (turned_back net.modules l Miniport Rattle.ndis_base.specs.declared.ListStatus.TheVariants.Paused)) (transmitted net l)) h.head.ring in
     let rows : drain_rows net ≡ transmitted net l = drain_rows_are net h ∙ ap (λ r. first_rows (r ∷ [])) ring in

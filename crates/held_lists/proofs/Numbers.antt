@@ -10,7 +10,7 @@ use Rattle.stack_rules.specs.declared.Stand.TheVariants as stand
 use Rattle.stack_rules.specs.declared.LiveList.{LiveList}
 use Rattle.stack_rules.specs.declared.Thing.{Thing}
 use Rattle.stack_rules.specs.declared.Thing.TheVariants as thing
-use Rattle.stack_rules.specs.Net.{lists, list_of, without, changed, at_end, passed_to, kept_by, passed, kept}
+use Rattle.stack_rules.specs.Net.{lists, list_of, without, after_change, at_end, as_passed, as_kept, after_pass, after_keep}
 use Rattle.held_lists.specs.Held.{is_absent, Distinct}
 use Rattle.held_lists.proofs.Splits.{all_left, all_right}
 
@@ -108,9 +108,9 @@ lists_if : (b : Bool) (f : LiveList → LiveList) (l : LiveList) (ts : List Thin
 lists_if true f l ts ls e = ap (λ k. f l ∷ k) e
 lists_if false f l ts ls e = ap (λ k. l ∷ k) e
 
-pub lists-changed : (n : ℕ) (f : LiveList → LiveList) (ts : List Thing) → lists (changed n f ts) ≡ map (touched n f) (lists ts)
+pub lists-changed : (n : ℕ) (f : LiveList → LiveList) (ts : List Thing) → lists (after_change n f ts) ≡ map (touched n f) (lists ts)
 lists-changed n f [] = refl
-lists-changed n f (thing.List l ∷ ts) = lists_if (l.list.0 == n) f l (changed n f ts) (map (touched n f) (lists ts)) (lists-changed n f ts)
+lists-changed n f (thing.List l ∷ ts) = lists_if (l.list.0 == n) f l (after_change n f ts) (map (touched n f) (lists ts)) (lists-changed n f ts)
 lists-changed n f (thing.Status s ∷ ts) = lists-changed n f ts
 lists-changed n f (thing.Answer a ∷ ts) = lists-changed n f ts
 
@@ -129,16 +129,16 @@ found ts front x back is absent =
 -- the list goes to the end, as passed or as kept
 pub lists-passed : (way : PassWay) (to : Target) (ts : List Thing) (front : List LiveList) (x : LiveList) (back : List LiveList)
     → lists ts ≡ front ++ x ∷ back → is_absent x.list.0 (front ++ back)
-    → lists (passed x.list.0 way to ts) ≡ (front ++ back) ++ record x { stand = stand.Passed way to; crossed = None } ∷ []
+    → lists (after_pass x.list.0 way to ts) ≡ (front ++ back) ++ record x { stand = stand.Passed way to; crossed = None } ∷ []
 lists-passed way to ts front x back is absent =
-    ap (λ o. lists (at_end (without x.list.0 ts) (passed_to way to o))) (found ts front x back is absent)
+    ap (λ o. lists (at_end (without x.list.0 ts) (as_passed way to o))) (found ts front x back is absent)
     ∙ lists-append (without x.list.0 ts) (thing.List (record x { stand = stand.Passed way to; crossed = None }) ∷ [])
     ∙ ap (λ ls. ls ++ record x { stand = stand.Passed way to; crossed = None } ∷ []) (lists-without_one ts front x back is absent)
 
 pub lists-kept : (m : ModuleId) (ts : List Thing) (front : List LiveList) (x : LiveList) (back : List LiveList)
     → lists ts ≡ front ++ x ∷ back → is_absent x.list.0 (front ++ back)
-    → lists (kept x.list.0 m ts) ≡ (front ++ back) ++ record x { last = m; stand = stand.Kept m } ∷ []
+    → lists (after_keep x.list.0 m ts) ≡ (front ++ back) ++ record x { last = m; stand = stand.Kept m } ∷ []
 lists-kept m ts front x back is absent =
-    ap (λ o. lists (at_end (without x.list.0 ts) (kept_by m o))) (found ts front x back is absent)
+    ap (λ o. lists (at_end (without x.list.0 ts) (as_kept m o))) (found ts front x back is absent)
     ∙ lists-append (without x.list.0 ts) (thing.List (record x { last = m; stand = stand.Kept m }) ∷ [])
     ∙ ap (λ ls. ls ++ record x { last = m; stand = stand.Kept m } ∷ []) (lists-without_one ts front x back is absent)

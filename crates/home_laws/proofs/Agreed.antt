@@ -16,7 +16,7 @@ use Rattle.journal_types.specs.declared.Target.{Target}
 use Rattle.stack_rules.specs.declared.LiveList.{LiveList}
 use Rattle.stack_rules.specs.declared.Stand.TheVariants as stand
 use Rattle.stack_rules.specs.declared.Thing.TheVariants as thing
-use Rattle.stack_rules.specs.Net.{Net, start, after, after_rows, told, lists, list_of, had_by, taken_by, kept_by, passed_to, request_of}
+use Rattle.stack_rules.specs.Net.{Net, start, after, after_rows, told, lists, list_of, had_by, taken_by, as_kept, as_passed, request_of}
 use Rattle.rule_basics.specs.Live.{others, retouched, with_last}
 use Rattle.rule_basics.specs.Numbers.{IsNumbered, IssuesNext}
 use Rattle.rule_basics.proofs.Lists.{lists-append, lists-without, lists-changed, lists-kept, lists-passed}
@@ -85,11 +85,11 @@ moved_some n m ls l k h same label =
     cases true t e there label = let at : n ≡ m = is_same n k.list.0 t ∙ e in ap (λ x. Some x) label ∙ sym (ap (λ i. label_at i ls) at ∙ there)
     cases false t e there label = not_m n k.list.0 m (label_at n ls) t e
 
-label_at-kept : (n m : ℕ) (by : ModuleId) (ls : List LiveList) (found : Option LiveList) → list_of m ls ≡ found → label_at n (with_last (others m ls) (kept_by by found)) ≡ label_at n ls
+label_at-kept : (n m : ℕ) (by : ModuleId) (ls : List LiveList) (found : Option LiveList) → list_of m ls ≡ found → label_at n (with_last (others m ls) (as_kept by found)) ≡ label_at n ls
 label_at-kept n m by ls None h = moved_none n m ls h
 label_at-kept n m by ls (Some l) h = moved_some n m ls l (record l { last = by; stand = stand.Kept by }) h refl refl
 
-label_at-passed : (n m : ℕ) (way : PassWay) (to : Target) (ls : List LiveList) (found : Option LiveList) → list_of m ls ≡ found → label_at n (with_last (others m ls) (passed_to way to found)) ≡ label_at n ls
+label_at-passed : (n m : ℕ) (way : PassWay) (to : Target) (ls : List LiveList) (found : Option LiveList) → list_of m ls ≡ found → label_at n (with_last (others m ls) (as_passed way to found)) ≡ label_at n ls
 label_at-passed n m way to ls None h = moved_none n m ls h
 label_at-passed n m way to ls (Some l) h = moved_some n m ls l (record l { stand = stand.Passed way to; crossed = None }) h refl refl
 

@@ -9,9 +9,10 @@ use Rattle.program_types.specs.Apply.{pushed}
 use Rattle.stack_rules.specs.declared.LiveList.{LiveList}
 use Rattle.stack_rules.specs.declared.Message.{Message}
 use Rattle.stack_rules.specs.Tests.{phase_is_running, is_running, is_virtual}
-use Rattle.stack_rules.specs.Net.{Net, lists, is_for}
+use Rattle.stack_rules.specs.Messages.{is_for}
+use Rattle.stack_rules.specs.Net.{Net, lists}
 use Rattle.stack_rules.specs.Places.{position, kept_lists, is_full, is_crossed}
-use Rattle.stack_rules.specs.Crosses.{first_uncrossed, take_of, take_outcome, mux_binding_for, grows_too_long, put_outcome, is_in_message, done_of, done_outcome, take_up_of, take_up_outcome, put_up_outcome}
+use Rattle.stack_rules.specs.Crosses.{first_uncrossed, take_of, take_outcome, mux_binding_for, is_too_long_tagged, put_outcome, is_in_message, done_of, done_outcome, take_up_of, take_up_outcome, put_up_outcome}
 use Rattle.home_laws.proofs.Fits.{Register}
 use Rattle.home_laws.proofs.Agreed.{Agrees}
 use Rattle.home_laws.proofs.Known.{by_test, Knows, knows_all, Each-find, framed_as, homeward_fits}
@@ -37,7 +38,7 @@ take_fits net reg h =
 pub put_fits : (net : Net) (reg : Register) (stack : ℕ) (message : CrossNo) (vlan : ℕ) (frames : List (List ℕ)) → Agrees net reg → FitOutcome reg (put_outcome net stack message vlan frames)
 put_fits net reg stack message vlan frames h =
     by_test (FitOutcome reg) (phase_is_running net.phase) _ _
-    (λ _. by_test (FitOutcome reg) (list_any (grows_too_long net.head) frames) _ _
+    (λ _. by_test (FitOutcome reg) (list_any (is_too_long_tagged net.head) frames) _ _
     (λ _. tt)
     (λ _. by_test (FitOutcome reg) (is_full net (Binding (mux_binding_for net.head stack))) _ _
     (λ _. tt)

@@ -10,7 +10,8 @@ use Rattle.journal_types.specs.declared.How.TheVariants as how
 use Rattle.journal_types.specs.declared.Row.{Row}
 use Rattle.stack_rules.specs.declared.LiveList.{LiveList}
 use Rattle.stack_rules.specs.Tests.{is_retain}
-use Rattle.stack_rules.specs.Net.{Net, kind_of_binding}
+use Rattle.stack_rules.specs.Heads.{kind_of_binding}
+use Rattle.stack_rules.specs.Net.{Net}
 use Rattle.stack_rules.specs.Deliveries.{takers, echoes, delivered, last_of, settled, delivery_rows}
 use Rattle.home_laws.specs.Rows.{Label}
 use Rattle.home_laws.proofs.Fits.{Register, IsLive, AnyLabel, AllFit, IsSane}

@@ -5,11 +5,12 @@ use Rattle.ndis_base.specs.declared.ModuleId.TheVariants.{Miniport, Filter, Bind
 use Rattle.journal_types.specs.declared.Row.{Row}
 use Rattle.stack_rules.specs.declared.LiveList.{LiveList}
 use Rattle.stack_rules.specs.Tests.{phase_is_running, is_retain, is_virtual}
-use Rattle.stack_rules.specs.Net.{Net, kind_of_binding, binding_numbers}
+use Rattle.stack_rules.specs.Heads.{kind_of_binding, binding_numbers}
+use Rattle.stack_rules.specs.Net.{Net}
 use Rattle.stack_rules.specs.Places.{position, ready_lists}
 use Rattle.stack_rules.specs.Sends.{first_of}
-use Rattle.stack_rules.specs.Cancels.{holds_lists}
-use Rattle.stack_rules.specs.Pumps.{pump_moves}
+use Rattle.stack_rules.specs.Cancels.{is_hold_filter}
+use Rattle.stack_rules.specs.Pumps.{is_pump_moving}
 use Rattle.stack_rules.specs.Drains.{returned_by, returns_all, passed_by, passes_all, empties, empties_ring, first_rows, drain_rows, drained, drain_outcome}
 use Rattle.rule_basics.specs.Live.{Each}
 use Rattle.home_laws.proofs.Fits.{Register, AllFit, IsSane}
@@ -38,7 +39,7 @@ returns_fit net reg b h =
 
 passes_fit : (net : Net) (reg : Register) (f : ℕ) → Agrees net reg → AllFit reg (passes_all net f)
 passes_fit net reg f h =
-    by_test (AllFit reg) (holds_lists net.modules f) _ _
+    by_test (AllFit reg) (is_hold_filter net.modules f) _ _
     (λ _. passed_fit net reg f (ready_lists net (Filter f)) (ready_known net reg (Filter f) h))
     (λ _. tt)
 
@@ -85,4 +86,4 @@ drained_fits reg (r ∷ rows) f = f
 
 pub drain_fits : (net : Net) (reg : Register) (keeps : Bool) → Agrees net reg → IsSane reg → FitOutcome reg (drain_outcome net keeps)
 drain_fits net reg keeps h s =
-    by_test (FitOutcome reg) (pump_moves net) _ _ (λ _. pump_fits net reg keeps h s) (λ _. drained_fits reg (drain_rows net) (drain_rows_fit net reg h s))
+    by_test (FitOutcome reg) (is_pump_moving net) _ _ (λ _. pump_fits net reg keeps h s) (λ _. drained_fits reg (drain_rows net) (drain_rows_fit net reg h s))

@@ -13,7 +13,7 @@ use Rattle.rule_basics.proofs.Each.{Each-implies}
 use Rattle.rule_basics.proofs.Lives.{find_is}
 use Rattle.home_laws.specs.Rows.{Label, IsAway, IsHome, rows_of}
 use Rattle.home_laws.proofs.Fits.{Register, empty, registered_rows, IsSane}
-use Rattle.home_laws.specs.Standing.{label_of, Stands, ListsStand}
+use Rattle.home_laws.specs.Standing.{label_of, StandsByRows, ListsStand}
 use Rattle.home_laws.proofs.Registers.{sane_empty, sane_rows}
 use Rattle.home_laws.proofs.Histories.{Tells, tells_rows}
 use Rattle.home_laws.proofs.Homes.{away_rows}
@@ -28,7 +28,7 @@ labelled_live n ls None label e f = absurd (none_some label f)
     none_some l e = cc
 labelled_live n ls (Some l) label e f = (find_is n ls l e).1
 
-stands : (rows : List Row) (net : Net) (reg : Register) → Agrees net reg → IsSane reg → Tells rows reg → ((list : ListNo) (label : Label) → reg.live list.0 ≡ Some label → IsAway rows list) → Stands rows net
+stands : (rows : List Row) (net : Net) (reg : Register) → Agrees net reg → IsSane reg → Tells rows reg → ((list : ListNo) (label : Label) → reg.live list.0 ≡ Some label → IsAway rows list) → StandsByRows rows net
 stands rows net reg h s t away = record {
   numbered = h.numbered;
   issued = Each-implies (Knows reg) _ (λ l k. t.issued l.list.0 (label_of l) k) (lists net.things) (knows_all net reg h);

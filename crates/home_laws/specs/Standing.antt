@@ -25,7 +25,7 @@ IsYounger n (origin.Copy list) = list.0 < n
 -- The numbers of live lists differ and lie below the next one. Each live list has an Issue row that shows
 -- its label, has no Home row, and is younger than the list that it was made of. Each number that was given
 -- out belongs to a live list or to one that is home.
-pub record Stands (rows : List Row) (net : Net) : Type 0 where
+pub record StandsByRows (rows : List Row) (net : Net) : Type 0 where
   pub numbered : IsNumbered net
   pub issued : Each (λ l. IsIssued rows l.list (label_of l)) (lists net.things)
   pub away : Each (λ l. IsAway rows l.list) (lists net.things)
@@ -34,4 +34,4 @@ pub record Stands (rows : List Row) (net : Net) : Type 0 where
 
 -- the lists stand after the turns of a stack of this head
 abbrev pub ListsStand : StackHead → List Turn → Type 0
-ListsStand head turns = Stands (rows_of turns) (seen head turns)
+ListsStand head turns = StandsByRows (rows_of turns) (seen head turns)

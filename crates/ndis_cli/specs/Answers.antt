@@ -30,8 +30,8 @@ pub data IsFaulty (bytes : List ℕ) (at : ScriptPlace) (why : ScriptCause) : Ty
   not_built : (script : Script) → Says bytes (Ok script) → is_built script ≡ false → at ≡ place.Whole → why ≡ cause.NotBuilt → IsFaulty bytes at why
 
 -- the text was added, all of it
-abbrev pub Adds : Option (List ℕ) → Option (List ℕ) → List ℕ → Type 0
-Adds held held' text = held' ≡ after held text
+abbrev pub AddsAll : Option (List ℕ) → Option (List ℕ) → List ℕ → Type 0
+AddsAll held held' text = held' ≡ after held text
 
 -- the drivers of the first of the parts came back after a run with these rows, and the other parts are as they
 -- were

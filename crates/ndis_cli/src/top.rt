@@ -9,7 +9,7 @@ ghost use Rattle.stack_book.specs.Stands.{IsClosed};
 ghost use Rattle.script_runs.specs.Built.{is_built, IsRun};
 ghost use Rattle.script_runs.specs.Drivers.{LacksDrivers, ComeBack};
 ghost use Rattle.ndis_cli.specs.Words as form;
-ghost use Rattle.ndis_cli.specs.Answers.{IsOf, IsFaulty, Adds, AreBack, Replayed, Wrote, IsFine, LacksFirst, LacksParts, is_early, ends_reading, ends_replay, IsDone, IsWanting};
+ghost use Rattle.ndis_cli.specs.Answers.{IsOf, IsFaulty, AddsAll, AreBack, Replayed, Wrote, IsFine, LacksFirst, LacksParts, is_early, ends_reading, ends_replay, IsDone, IsWanting};
 
 use crate::words::is_form;
 use journal_store::Journal;
@@ -74,7 +74,7 @@ pub fn ndis_serial<S: Source, K: Sink>(
     ensures read_fault { result ≡ Status.ReadFault → Rose (S.faults source.old) (S.faults source.new) }
     ensures write_fault { result ≡ Status.WriteFault → Rose (K.faults sink.old) (K.faults sink.new) }
     // The report of a run of the script, whole, or a prefix of one.
-    ensures done { result ≡ Status.Done → Wrote Adds (S.left source.old) (map (λ p. ⟦<StackParts as Handed>⟧.handed p) parts.old.items) (map (λ p. ⟦<StackParts as Handed>⟧.handed p) parts.new.items) (K.holds sink.old) (K.holds sink.new) }
+    ensures done { result ≡ Status.Done → Wrote AddsAll (S.left source.old) (map (λ p. ⟦<StackParts as Handed>⟧.handed p) parts.old.items) (map (λ p. ⟦<StackParts as Handed>⟧.handed p) parts.new.items) (K.holds sink.old) (K.holds sink.new) }
     ensures cut { result ≡ Status.WriteFault → Wrote AddsPrefix (S.left source.old) (map (λ p. ⟦<StackParts as Handed>⟧.handed p) parts.old.items) (map (λ p. ⟦<StackParts as Handed>⟧.handed p) parts.new.items) (K.holds sink.old) (K.holds sink.new) }
     ensures memory { result ≡ Status.Memory → (K.holds sink.new ≡ K.holds sink.old) ⊎ Wrote AddsPrefix (S.left source.old) (map (λ p. ⟦<StackParts as Handed>⟧.handed p) parts.old.items) (map (λ p. ⟦<StackParts as Handed>⟧.handed p) parts.new.items) (K.holds sink.old) (K.holds sink.new) }
     // Where nothing was run nothing is written, and the drivers are as they were.
@@ -145,7 +145,7 @@ fn replay<K: Sink>(
     ensures late { IsTrue (ends_replay result) }
     ensures lacks { (k : ℕ) → result ≡ Status.NoParts k → (k ≡ 0) × LacksFirst script.now (map (λ p. ⟦<StackParts as Handed>⟧.handed p) parts.old.items) }
     ensures fault { result ≡ Status.WriteFault → Rose (K.faults sink.old) (K.faults sink.new) }
-    ensures done { result ≡ Status.Done → Replayed Adds script.now (map (λ p. ⟦<StackParts as Handed>⟧.handed p) parts.old.items) (map (λ p. ⟦<StackParts as Handed>⟧.handed p) parts.new.items) (K.holds sink.old) (K.holds sink.new) }
+    ensures done { result ≡ Status.Done → Replayed AddsAll script.now (map (λ p. ⟦<StackParts as Handed>⟧.handed p) parts.old.items) (map (λ p. ⟦<StackParts as Handed>⟧.handed p) parts.new.items) (K.holds sink.old) (K.holds sink.new) }
     ensures cut { result ≡ Status.WriteFault → Replayed AddsPrefix script.now (map (λ p. ⟦<StackParts as Handed>⟧.handed p) parts.old.items) (map (λ p. ⟦<StackParts as Handed>⟧.handed p) parts.new.items) (K.holds sink.old) (K.holds sink.new) }
     ensures memory { result ≡ Status.Memory → (K.holds sink.new ≡ K.holds sink.old) ⊎ Replayed AddsPrefix script.now (map (λ p. ⟦<StackParts as Handed>⟧.handed p) parts.old.items) (map (λ p. ⟦<StackParts as Handed>⟧.handed p) parts.new.items) (K.holds sink.old) (K.holds sink.new) }
     ensures silent { (k : ℕ) → result ≡ Status.NoParts k → K.holds sink.new ≡ K.holds sink.old }

@@ -9,7 +9,7 @@ use Rattle.journal_types.specs.declared.Target.{Target}
 use Rattle.journal_types.specs.declared.Row.TheVariants as row
 use Rattle.stack_rules.specs.declared.LiveList.{LiveList}
 use Rattle.stack_rules.specs.declared.Thing.{Thing}
-use Rattle.stack_rules.specs.Net.{Net, after, lists, list_of, had_by, kept_by, passed_to}
+use Rattle.stack_rules.specs.Net.{Net, after, lists, list_of, had_by, as_kept, as_passed}
 use Rattle.rule_basics.specs.Live.{is_live, IsApart, others, retouched, with_last, things_of}
 use Rattle.rule_basics.proofs.Lists.{lists-things_of, things_of-others, things_of-retouched, things_of-kept, things_of-passed}
 use Rattle.rule_basics.proofs.Apart.{IsApart-append}
@@ -24,13 +24,13 @@ use Rattle.own_ledger.proofs.Removal.{lists_in-append}
 abbrev pub with_lists : Inside → List LiveList → Net
 with_lists a ls = record (net_of a) { things = things_of ls }
 
-pub kept-view : (v : LedgerView) (a : Inside) → view_of a ≡ v → (list : ListNo) (m : ModuleId) (ls : List LiveList) → ls ≡ with_last (others list.0 (lists_in a.entries.items)) (kept_by m (list_of list.0 (lists_in a.entries.items))) → with_lists a ls ≡ after v.net (row.Keep list m)
+pub kept-view : (v : LedgerView) (a : Inside) → view_of a ≡ v → (list : ListNo) (m : ModuleId) (ls : List LiveList) → ls ≡ with_last (others list.0 (lists_in a.entries.items)) (as_kept m (list_of list.0 (lists_in a.entries.items))) → with_lists a ls ≡ after v.net (row.Keep list m)
 kept-view v a h list m ls e =
     let P : LedgerView → Type 0 = λ w. with_lists a ls ≡ after w.net (row.Keep list m) in
     let put : List Thing → Net = λ ts. record (net_of a) { things = ts } in
     subst P h (ap put (ap things_of e ∙ things_of-kept list.0 m (lists_in a.entries.items)))
 
-pub passed-view : (v : LedgerView) (a : Inside) → view_of a ≡ v → (list : ListNo) (way : PassWay) (to : Target) (ls : List LiveList) → ls ≡ with_last (others list.0 (lists_in a.entries.items)) (passed_to way to (list_of list.0 (lists_in a.entries.items))) → with_lists a ls ≡ after v.net (row.Pass list way to)
+pub passed-view : (v : LedgerView) (a : Inside) → view_of a ≡ v → (list : ListNo) (way : PassWay) (to : Target) (ls : List LiveList) → ls ≡ with_last (others list.0 (lists_in a.entries.items)) (as_passed way to (list_of list.0 (lists_in a.entries.items))) → with_lists a ls ≡ after v.net (row.Pass list way to)
 passed-view v a h list way to ls e =
     let P : LedgerView → Type 0 = λ w. with_lists a ls ≡ after w.net (row.Pass list way to) in
     let put : List Thing → Net = λ ts. record (net_of a) { things = ts } in

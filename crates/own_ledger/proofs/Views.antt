@@ -6,7 +6,7 @@ use Rattle.ndis_base.specs.declared.ModuleId.TheVariants.{Miniport}
 use Rattle.ndis_base.specs.declared.ModuleState.{ModuleState}
 use Rattle.stack_rules.specs.declared.Thing.{Thing}
 use Rattle.stack_rules.specs.declared.Thing.TheVariants as thing
-use Rattle.stack_rules.specs.Places.{agenda_first, outstanding, owned, kept_lists, is_kept_by, is_passed, counts_at}
+use Rattle.stack_rules.specs.Places.{agenda_first, outstanding, owned, kept_lists, is_kept_by, is_passed, is_counted_at}
 use Rattle.stack_rules.specs.Sends.{first_of, ring_is_full}
 use Rattle.stack_rules.specs.Pauses.{first_unpaused, running_floors}
 use Rattle.stack_rules.specs.Tests.{same_module, is_paused, is_running}
@@ -33,7 +33,7 @@ owned-view v a h m es e =
 pub outstanding-view : (v : LedgerView) (a : Inside) → view_of a ≡ v → (i : ℕ) (es : List Entry) → es ≡ a.entries.items → outstanding v.net i ≡ count_by (λ e. counts i e.owner e.last e.stand) es
 outstanding-view v a h i es e =
     let P : LedgerView → Type 0 = λ w. outstanding w.net i ≡ count_by (λ e. counts i e.owner e.last e.stand) es in
-    subst P h (count_by-entries (counts_at [] i) a.entries.items ∙ ap (count_by (λ e. counts i e.owner e.last e.stand)) (sym e))
+    subst P h (count_by-entries (is_counted_at [] i) a.entries.items ∙ ap (count_by (λ e. counts i e.owner e.last e.stand)) (sym e))
 
 pub ring_is_full-view : (v : LedgerView) (a : Inside) → view_of a ≡ v → (n : ℕ) (es : List Entry) → es ≡ a.entries.items → n ≡ count_by (λ e. is_kept_by Miniport e.stand) es → (n == a.head.port.ring) ≡ ring_is_full v.net
 ring_is_full-view v a h n es e c =

@@ -1,7 +1,8 @@
 -- The state that a ledger's fields stand for.
 use Rattle.std.specs.Prelude.{[], ◌+◌, ◌≤◌}
 use Rattle.std.specs.Vec.{vec_len, vec_capacity}
-use Rattle.stack_rules.specs.Net.{Net, first_filters}
+use Rattle.stack_rules.specs.Port.{initial_packet_filters}
+use Rattle.stack_rules.specs.Net.{Net}
 use Rattle.rule_basics.specs.Live.{IsApart, things_of}
 use Rattle.own_ledger.specs.Entries.{lists_in}
 use Rattle.own_ledger.specs.View.{LedgerView}
@@ -14,7 +15,7 @@ net_of a = record {
   modules = record { miniport = a.miniport; bindings = a.bindings.items; filters = []; config = a.config.0; order = [] };
   things = things_of (lists_in a.entries.items);
   requests = [];
-  port = record { sent = a.sent; received = a.received; answers_by = first_filters a.head; delivers_by = first_filters a.head };
+  port = record { sent = a.sent; received = a.received; answers_by = initial_packet_filters a.head; delivers_by = initial_packet_filters a.head };
   messages = [];
   next = record { list = a.next; request = 1; status = 1; message = 1; filter = 1 };
 }

@@ -2,7 +2,7 @@
 ghost use Rattle.std.specs.Prelude.{◌≡◌, ◌==◌, false, ℕ, ◌+◌, ◌<◌, ◌≤◌, [], Some, None, IfSome, IfNone, length, slice_index_or, option_map, count_by, find};
 ghost use Rattle.std.specs.Vec.{vec_len, vec_capacity};
 ghost use Rattle.ndis_base.specs.declared.ModuleId.TheVariants.{Miniport};
-ghost use Rattle.stack_rules.specs.Net.{list_of, had_by, kept_by, passed_to};
+ghost use Rattle.stack_rules.specs.Net.{list_of, had_by, as_kept, as_passed};
 ghost use Rattle.stack_rules.specs.Places.{is_kept_by, is_passed};
 ghost use Rattle.stack_rules.specs.Tests.{same_module};
 ghost use Rattle.rule_basics.specs.Live.{is_live, IsApart, others, retouched, with_last};
@@ -75,7 +75,7 @@ pub fn give(entries: &mut Vec<Entry>, number: u64, id: ModuleId)
 /// A module keeps the list of a number.
 pub fn keep(entries: &mut Vec<Entry>, number: u64, id: ModuleId)
     requires { IsApart (lists_in entries.old.items) }
-    ensures kept { lists_in entries.new.items ≡ with_last (others number (lists_in entries.old.items)) (kept_by id (list_of number (lists_in entries.old.items))) }
+    ensures kept { lists_in entries.new.items ≡ with_last (others number (lists_in entries.old.items)) (as_kept id (list_of number (lists_in entries.old.items))) }
     ensures len { vec_len entries.new ≡ vec_len entries.old }
     ensures capacity { vec_capacity entries.new ≡ vec_capacity entries.old }
 {
@@ -89,7 +89,7 @@ pub fn keep(entries: &mut Vec<Entry>, number: u64, id: ModuleId)
 /// The list of a number is passed on.
 pub fn pass(entries: &mut Vec<Entry>, number: u64, way: PassWay, to: Target)
     requires { IsApart (lists_in entries.old.items) }
-    ensures passed { lists_in entries.new.items ≡ with_last (others number (lists_in entries.old.items)) (passed_to way to (list_of number (lists_in entries.old.items))) }
+    ensures passed { lists_in entries.new.items ≡ with_last (others number (lists_in entries.old.items)) (as_passed way to (list_of number (lists_in entries.old.items))) }
     ensures len { vec_len entries.new ≡ vec_len entries.old }
     ensures capacity { vec_capacity entries.new ≡ vec_capacity entries.old }
 {

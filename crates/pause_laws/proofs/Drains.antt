@@ -16,11 +16,12 @@ use Rattle.journal_types.specs.declared.Row.TheVariants as row
 use Rattle.stack_rules.specs.declared.LiveList.{LiveList}
 use Rattle.stack_rules.specs.declared.Stand.TheVariants as stand
 use Rattle.stack_rules.specs.Tests.{is_down, is_retain, is_virtual, phase_is_running}
-use Rattle.stack_rules.specs.Net.{Net, Modules, after, after_rows, lists, list_of, had_by, passed_to, kind_of_binding, binding_numbers}
+use Rattle.stack_rules.specs.Heads.{kind_of_binding, binding_numbers}
+use Rattle.stack_rules.specs.Net.{Net, Modules, after, after_rows, lists, list_of, had_by, as_passed}
 use Rattle.stack_rules.specs.Places.{position, ready_lists}
 use Rattle.stack_rules.specs.Targets.{onward, homeward, homeward_by, turned_back}
 use Rattle.stack_rules.specs.Sends.{first_of}
-use Rattle.stack_rules.specs.Cancels.{cancel_outcome, cancel_rows_at, cancelled_at, aborted, queues, is_named, holds_lists}
+use Rattle.stack_rules.specs.Cancels.{cancel_outcome, cancel_rows_at, cancelled_at, aborted, queues, is_named, is_hold_filter}
 use Rattle.stack_rules.specs.Drains.{returned_by, returns_all, passed_by, passes_all, empties, empties_ring, drain_rows, drained}
 use Rattle.rule_basics.specs.Live.{is_live, Each, others, retouched, with_last, KeepsNumber}
 use Rattle.rule_basics.proofs.Lists.{lists-changed, lists-passed}
@@ -78,11 +79,11 @@ descends_pass P net next list way to k d m x f =
 
     now : (y : LiveList) → list_of list.0 (lists next.things) ≡ Some y → list_of list.0 (lists (after next (row.Pass list way to)).things) ≡ Some (passing way to y)
     now y e =
-        ap (list_of list.0) (lists-passed list.0 way to next.things ∙ ap (λ o. with_last (others list.0 (lists next.things)) (passed_to way to o)) e)
+        ap (list_of list.0) (lists-passed list.0 way to next.things ∙ ap (λ o. with_last (others list.0 (lists next.things)) (as_passed way to o)) e)
         ∙ found-last list.0 (others list.0 (lists next.things)) _ (find_is list.0 (lists next.things) y e).0 (absent list.0 (lists next.things))
 
     none : list_of list.0 (lists next.things) ≡ None → list_of list.0 (lists (after next (row.Pass list way to)).things) ≡ None
-    none e = ap (list_of list.0) (lists-passed list.0 way to next.things ∙ ap (λ o. with_last (others list.0 (lists next.things)) (passed_to way to o)) e) ∙ gone list.0 (lists next.things)
+    none e = ap (list_of list.0) (lists-passed list.0 way to next.things ∙ ap (λ o. with_last (others list.0 (lists next.things)) (as_passed way to o)) e) ∙ gone list.0 (lists next.things)
 
     at : (o : Option LiveList) → list_of list.0 (lists next.things) ≡ o → list.0 ≡ m → WasThere P (lists net.things) m x
     at None e same = absurd (cc (subst (λ n. list_of n (lists (after next (row.Pass list way to)).things) ≡ Some x) (sym same) f, none e))
@@ -255,7 +256,7 @@ returns_clear net front facts k b =
 
 passes_clear : (net : Net) (front : ℕ) → Facts net front → Clear net.modules front net → (f : ℕ) → Leaves net front (passes_all net f)
 passes_clear net front facts k f =
-    by_test (Leaves net front) (holds_lists net.modules f) _ _
+    by_test (Leaves net front) (is_hold_filter net.modules f) _ _
     (λ _.
     let all : IsMoved IsLikeLast net (after_rows net (map (passed_by net f) (ready_lists net (Filter f)))) front =
     steps_map (λ next. IsMoved IsLikeLast net next front) (IsKeptAt net front (Filter f)) (passed_by net f) (λ next l r p. on_step net next front facts (Filter f) l r p) (ready_lists net (Filter f)) net (ready_all net front (Filter f) k) (moved_start IsLikeLast last_same net front k) in

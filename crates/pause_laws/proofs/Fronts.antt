@@ -8,18 +8,18 @@ use Rattle.stack_rules.specs.declared.Stand.TheVariants as stand
 use Rattle.stack_rules.specs.declared.LiveList.{LiveList}
 use Rattle.stack_rules.specs.Tests.{is_down}
 use Rattle.stack_rules.specs.Net.{Net, Modules, lists}
-use Rattle.stack_rules.specs.Places.{position, position_of_target, position_in, is_at_most, counts_at, outstanding}
+use Rattle.stack_rules.specs.Places.{position, position_of_target, position_in, is_at_most, is_counted_at, outstanding}
 use Rattle.stack_rules.specs.Targets.{has_receive}
 use Rattle.stack_rules.specs.Rewires.{is_in}
 use Rattle.rule_basics.specs.Live.{Each}
 use Rattle.rule_basics.proofs.Counts.{one_if, count_by-cons}
 use Rattle.rule_basics.proofs.Each.{Each-implies}
 use Rattle.state_laws.proofs.Changes.{IsMove}
-use Rattle.pause_laws.specs.Clear.{IsNearest, Stands, IsClear, AreClear}
+use Rattle.pause_laws.specs.Clear.{IsNearest, StandsFrom, IsClear, AreClear}
 use Rattle.state_laws.proofs.Tops.{position_most}
 
 -- what is above the front counts no list
-none_stands : (ms : Modules) (front i : ℕ) (l : LiveList) (s : Stand) → i < front → front ≤ position ms.order l.owner → (is_down l.direction ≡ true → position ms.order l.owner ≤ position ms.order l.last) → Stands ms front l s → is_at_most i (position_in ms.order l.last s) ≡ false
+none_stands : (ms : Modules) (front i : ℕ) (l : LiveList) (s : Stand) → i < front → front ≤ position ms.order l.owner → (is_down l.direction ≡ true → position ms.order l.owner ≤ position ms.order l.last) → StandsFrom ms front l s → is_at_most i (position_in ms.order l.last s) ≡ false
 none_stands ms front i l stand.Unplaced a o d s = refl
 none_stands ms front i l (stand.Kept m) a o d s = let at : front ≤ position ms.order m = s.1 in grind (arith, nat_tests)
 none_stands ms front i l (stand.Passed way.Down to) a o d s = let at : position ms.order l.owner ≤ position_of_target ms.order to = s.1 in grind (arith, nat_tests)
@@ -27,7 +27,7 @@ none_stands ms front i l (stand.Passed (way.Done status) to) a o d s = let at : 
 none_stands ms front i l (stand.Passed way.Up to) a o d s = let at : front ≤ position ms.order l.last = s.1.0 in grind (arith, nat_tests)
 none_stands ms front i l (stand.Passed (way.Back status) to) a o d s = let at : front ≤ position_of_target ms.order to = s.1 in grind (arith, nat_tests)
 
-not_counted : (ms : Modules) (front i : ℕ) (l : LiveList) → i < front → IsClear ms front l → counts_at ms.order i l ≡ false
+not_counted : (ms : Modules) (front i : ℕ) (l : LiveList) → i < front → IsClear ms front l → is_counted_at ms.order i l ≡ false
 not_counted ms front i l a c =
     let owner : (position ms.order l.owner == i) ≡ false = other (position ms.order l.owner) front i a c.owner in
     rw (owner, none_stands ms front i l l.stand a c.owner c.down c.stands) refl
@@ -35,14 +35,14 @@ not_counted ms front i l a c =
     other : (o front i : ℕ) → i < front → front ≤ o → (o == i) ≡ false
     other o front i a b = grind (arith, nat_tests)
 
-pub none_counted : (ms : Modules) (front i : ℕ) (ls : List LiveList) → i < front → Each (IsClear ms front) ls → count_by (counts_at ms.order i) ls ≡ 0
+pub none_counted : (ms : Modules) (front i : ℕ) (ls : List LiveList) → i < front → Each (IsClear ms front) ls → count_by (is_counted_at ms.order i) ls ≡ 0
 none_counted ms front i [] a c = refl
 none_counted ms front i (l ∷ ls) a c =
-    let here : one_if (counts_at ms.order i l) ≡ 0 = ap one_if (not_counted ms front i l a c.0) in
-    omega (arith, count_by-cons (counts_at ms.order i) l ls, here, none_counted ms front i ls a c.1)
+    let here : one_if (is_counted_at ms.order i l) ≡ 0 = ap one_if (not_counted ms front i l a c.0) in
+    omega (arith, count_by-cons (is_counted_at ms.order i) l ls, here, none_counted ms front i ls a c.1)
 
 -- where nothing is outstanding at the front each list is behind it
-stands_behind : (ms : Modules) (front : ℕ) (l : LiveList) (s : Stand) → is_at_most front (position_in ms.order l.last s) ≡ false → Stands ms front l s → Stands ms (front + 1) l s
+stands_behind : (ms : Modules) (front : ℕ) (l : LiveList) (s : Stand) → is_at_most front (position_in ms.order l.last s) ≡ false → StandsFrom ms front l s → StandsFrom ms (front + 1) l s
 stands_behind ms front l stand.Unplaced n s = tt
 stands_behind ms front l (stand.Kept m) n s = (s.0, grind (arith, nat_tests))
 stands_behind ms front l (stand.Passed way.Down to) n s = s
@@ -50,7 +50,7 @@ stands_behind ms front l (stand.Passed (way.Done status) to) n s = s
 stands_behind ms front l (stand.Passed way.Up to) n s = (s.0, (grind (arith, nat_tests), s.1.1))
 stands_behind ms front l (stand.Passed (way.Back status) to) n s = (s.0, grind (arith, nat_tests))
 
-one_behind : (ms : Modules) (front : ℕ) (l : LiveList) → counts_at ms.order front l ≡ false → IsClear ms front l → IsClear ms (front + 1) l
+one_behind : (ms : Modules) (front : ℕ) (l : LiveList) → is_counted_at ms.order front l ≡ false → IsClear ms front l → IsClear ms (front + 1) l
 one_behind ms front l n c =
     let both = neither (position ms.order l.owner == front) (is_at_most front (position_in ms.order l.last l.stand)) n in
     record { owner = apart (position ms.order l.owner) front both.0 c.owner; down = c.down; stands = stands_behind ms front l l.stand both.1 c.stands }
@@ -62,12 +62,12 @@ one_behind ms front l n c =
     apart : (o front : ℕ) → (o == front) ≡ false → front ≤ o → front + 1 ≤ o
     apart o front h a = grind (arith, nat_tests)
 
-all_behind : (ms : Modules) (front : ℕ) (ls : List LiveList) → count_by (counts_at ms.order front) ls ≡ 0 → Each (IsClear ms front) ls → Each (IsClear ms (front + 1)) ls
+all_behind : (ms : Modules) (front : ℕ) (ls : List LiveList) → count_by (is_counted_at ms.order front) ls ≡ 0 → Each (IsClear ms front) ls → Each (IsClear ms (front + 1)) ls
 all_behind ms front [] n c = tt
 all_behind ms front (l ∷ ls) n c =
-    let whole = count_by-cons (counts_at ms.order front) l ls in
-    let none : one_if (counts_at ms.order front l) ≡ 0 = omega (arith, whole, n) in
-    (one_behind ms front l (not_one (counts_at ms.order front l) none) c.0, all_behind ms front ls (omega (arith, whole, n)) c.1)
+    let whole = count_by-cons (is_counted_at ms.order front) l ls in
+    let none : one_if (is_counted_at ms.order front l) ≡ 0 = omega (arith, whole, n) in
+    (one_behind ms front l (not_one (is_counted_at ms.order front l) none) c.0, all_behind ms front ls (omega (arith, whole, n)) c.1)
   where
     not_one : (b : Bool) → one_if b ≡ 0 → b ≡ false
     not_one true h = absurd (omega (arith, h))
@@ -79,7 +79,7 @@ nearest_same ms other from to e r h f a i b =
     let at : position other.order (Filter f) ≡ position ms.order (Filter f) = ap (λ o. position o (Filter f)) e in
     omega (arith, at, h f (sym (r f) ∙ a) (sym (ap (is_in f) e) ∙ i) (omega (arith, at, b)))
 
-stands_same : (ms other : Modules) (front to : ℕ) (l : LiveList) (s : Stand) → other.order ≡ ms.order → ((f : ℕ) → has_receive other f ≡ has_receive ms f) → to ≤ front → Stands ms front l s → Stands other to l s
+stands_same : (ms other : Modules) (front to : ℕ) (l : LiveList) (s : Stand) → other.order ≡ ms.order → ((f : ℕ) → has_receive other f ≡ has_receive ms f) → to ≤ front → StandsFrom ms front l s → StandsFrom other to l s
 stands_same ms other front to l stand.Unplaced e r a s = tt
 stands_same ms other front to l (stand.Kept m) e r a s = (s.0, omega (arith, s.1, a, ap (λ o. position o m) e))
 stands_same ms other front to l (stand.Passed way.Down t) e r a s = (s.0, omega (arith, s.1, ap (λ o. position o l.owner) e, ap (λ o. position_of_target o t) e))

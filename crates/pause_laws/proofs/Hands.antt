@@ -14,7 +14,7 @@ use Rattle.journal_types.specs.declared.Row.{Row}
 use Rattle.journal_types.specs.declared.Row.TheVariants as row
 use Rattle.stack_rules.specs.declared.LiveList.{LiveList}
 use Rattle.stack_rules.specs.declared.Stand.TheVariants as stand
-use Rattle.stack_rules.specs.Net.{Net, Modules, after, lists, list_of, had_by, taken_by, passed_to, kept_by, request_of}
+use Rattle.stack_rules.specs.Net.{Net, Modules, after, lists, list_of, had_by, taken_by, as_passed, as_kept, request_of}
 use Rattle.stack_rules.specs.Places.{position}
 use Rattle.rule_basics.specs.Live.{others, with_last}
 use Rattle.rule_basics.proofs.Lists.{lists-append, lists-without, lists-changed, lists-kept, lists-passed}
@@ -97,18 +97,18 @@ module _ (ms : Modules) (front : ℕ) where
   -- a list goes from hand to where it may stand
   pub put_pass : (net : Net) (list : ListNo) (way : PassWay) (to : Target) (l : LiveList) → Hand ms front list.0 l net → IsClear ms front (record l { stand = stand.Passed way to; crossed = None }) → Clear ms front (after net (row.Pass list way to))
   put_pass net list way to l h c =
-      clear_by net.next.list _ _ (lists-passed list.0 way to net.things ∙ ap (λ o. with_last (others list.0 (lists net.things)) (passed_to way to o)) h.found)
+      clear_by net.next.list _ _ (lists-passed list.0 way to net.things ∙ ap (λ o. with_last (others list.0 (lists net.things)) (as_passed way to o)) h.found)
       (hand_put ms front list.0 l (record l { stand = stand.Passed way to; crossed = None }) (lists net.things) net.next.list h h.number c)
 
   pub put_keep : (net : Net) (list : ListNo) (m : ModuleId) (l : LiveList) → Hand ms front list.0 l net → IsClear ms front (record l { last = m; stand = stand.Kept m }) → Clear ms front (after net (row.Keep list m))
   put_keep net list m l h c =
-      clear_by net.next.list _ _ (lists-kept list.0 m net.things ∙ ap (λ o. with_last (others list.0 (lists net.things)) (kept_by m o)) h.found)
+      clear_by net.next.list _ _ (lists-kept list.0 m net.things ∙ ap (λ o. with_last (others list.0 (lists net.things)) (as_kept m o)) h.found)
       (hand_put ms front list.0 l (record l { last = m; stand = stand.Kept m }) (lists net.things) net.next.list h h.number c)
 
   -- a list that isn't live is not moved
   pub pass_none : (net : Net) (list : ListNo) (way : PassWay) (to : Target) → list_of list.0 (lists net.things) ≡ None → Clear ms front net → Clear ms front (after net (row.Pass list way to))
   pass_none net list way to e h =
-      clear_by net.next.list _ _ (lists-passed list.0 way to net.things ∙ ap (λ o. with_last (others list.0 (lists net.things)) (passed_to way to o)) e)
+      clear_by net.next.list _ _ (lists-passed list.0 way to net.things ∙ ap (λ o. with_last (others list.0 (lists net.things)) (as_passed way to o)) e)
       (clear_gone ms front list.0 (lists net.things) net.next.list h)
 
   pub clear_issued : (list : ListNo) (owner : ModuleId) (direction : Direction) (cancel : Option ℕ) (origin : Origin) (frames : List (List ℕ)) → front ≤ position ms.order owner → IsClear ms front (issued list owner direction cancel origin frames)

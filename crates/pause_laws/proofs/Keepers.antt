@@ -8,10 +8,10 @@ use Rattle.stack_rules.specs.declared.Stand.TheVariants as stand
 use Rattle.stack_rules.specs.declared.LiveList.{LiveList}
 use Rattle.stack_rules.specs.Tests.{is_down, same_module}
 use Rattle.stack_rules.specs.Net.{Net, lists}
-use Rattle.stack_rules.specs.Places.{position, is_kept_by, kept_lists, ready_lists, waits}
+use Rattle.stack_rules.specs.Places.{position, is_kept_by, kept_lists, ready_lists, is_waiting}
 use Rattle.rule_basics.specs.Live.{Each}
 use Rattle.rule_basics.proofs.Each.{Each-implies}
-use Rattle.pause_laws.specs.Clear.{Stands}
+use Rattle.pause_laws.specs.Clear.{StandsFrom}
 use Rattle.pause_laws.proofs.Hands.{Clear}
 use Rattle.pause_laws.proofs.Works.{IsWorked, all_worked, each_filter}
 
@@ -35,7 +35,7 @@ pub record IsKeptAt (net : Net) (front : ℕ) (m : ModuleId) (l : LiveList) : Ty
 
 pub kept_at : (net : Net) (front : ℕ) (m : ModuleId) (l : LiveList) → IsWorked net front l → is_kept_by m l.stand ≡ true → IsKeptAt net front m l
 kept_at net front m l w h =
-    let stands : Stands net.modules front l (stand.Kept m) = subst (Stands net.modules front l) (kept_is m l.stand h) w.clear.stands in
+    let stands : StandsFrom net.modules front l (stand.Kept m) = subst (StandsFrom net.modules front l) (kept_is m l.stand h) w.clear.stands in
     record { worked = w; last = stands.0; at = stands.1; below = λ d. subst (λ k. position net.modules.order l.owner ≤ position net.modules.order k) stands.0 (w.clear.down d) }
 
 pub kept_all : (net : Net) (front : ℕ) (m : ModuleId) → Clear net.modules front net → Each (IsKeptAt net front m) (kept_lists net m)
@@ -47,4 +47,4 @@ pub each_of : (P : LiveList → Type 0) (test : LiveList → Bool) (ls : List Li
 each_of P test ls h = Each-implies (λ l. P l × (test l ≡ true)) P (λ l p. p.0) (filter test ls) (each_filter P test ls h)
 
 pub ready_all : (net : Net) (front : ℕ) (m : ModuleId) → Clear net.modules front net → Each (IsKeptAt net front m) (ready_lists net m)
-ready_all net front m k = each_of (IsKeptAt net front m) (λ l. not (waits net l)) (kept_lists net m) (kept_all net front m k)
+ready_all net front m k = each_of (IsKeptAt net front m) (λ l. not (is_waiting net l)) (kept_lists net m) (kept_all net front m k)

@@ -28,7 +28,7 @@ use Rattle.rule_basics.proofs.Lists.{lists-append, lists-changed}
 use Rattle.rule_basics.proofs.Numbered.{below_absent}
 use Rattle.state_laws.proofs.Rows.{by_test, after_rows-append}
 use Rattle.state_laws.proofs.Takes.{attached-is}
-use Rattle.pause_laws.specs.Clear.{IsClear, Stands, AreClear}
+use Rattle.pause_laws.specs.Clear.{IsClear, StandsFrom, AreClear}
 use Rattle.pause_laws.proofs.Lists.{same_found, not_both, clear_found, clear_touched, found-touched, none-touched, found-last}
 use Rattle.pause_laws.proofs.Hands.{Clear, issued, clear_skip, clear_issue}
 use Rattle.pause_laws.proofs.Routes.{issue_on}
@@ -62,7 +62,7 @@ clear_nowhere ms front n m ls next h k =
     (λ x f.
     let c : IsClear ms front x = clear_found ms front n ls next x k f in
     let was : IsNowhere x = h x f in
-    record { owner = c.owner; down = λ d. absurd (not_both (is_down x.direction) d was.lent); stands = subst (Stands ms front (had_by m x)) (sym was.unplaced) tt })
+    record { owner = c.owner; down = λ d. absurd (not_both (is_down x.direction) d was.lent); stands = subst (StandsFrom ms front (had_by m x)) (sym was.unplaced) tt })
     k
 
 -- a turn while a list is lent

@@ -25,23 +25,24 @@ use Rattle.stack_rules.specs.declared.LiveList.{LiveList}
 use Rattle.stack_rules.specs.declared.Thing.{Thing}
 use Rattle.stack_rules.specs.declared.Thing.TheVariants as thing
 use Rattle.stack_rules.specs.Tests.{is_down, is_running, is_unbound, is_halted, is_virtual, phase_is_running}
-use Rattle.stack_rules.specs.Net.{Net, after, after_rows, lists, list_of, is_for}
+use Rattle.stack_rules.specs.Messages.{is_for}
+use Rattle.stack_rules.specs.Net.{Net, after, after_rows, lists, list_of}
 use Rattle.stack_rules.specs.Places.{position, is_full, kept_lists, is_kept_by, agenda_first, state_of}
 use Rattle.stack_rules.specs.Targets.{next_status}
 use Rattle.stack_rules.specs.Outcome.{Outcome, cross_no, status_no}
 use Rattle.stack_rules.specs.Sends.{first_of, first_in_ring}
 use Rattle.stack_rules.specs.Receives.{give_back_of}
 use Rattle.stack_rules.specs.Drains.{drain_outcome}
-use Rattle.stack_rules.specs.Pumps.{moved_rows, thing_rows, request_pump, pump_of, pump_moves}
+use Rattle.stack_rules.specs.Pumps.{moved_rows, thing_rows, request_pump, pump_of, is_pump_moving}
 use Rattle.stack_rules.specs.Requests.{Giving, given_rows_by, giving_rows, next_giving}
 use Rattle.stack_rules.specs.Statuses.{seen_by_all, status_rows}
-use Rattle.stack_rules.specs.Crosses.{first_uncrossed, take_of, done_of, take_up_of, grows_too_long, mux_binding_for, is_in_message}
+use Rattle.stack_rules.specs.Crosses.{first_uncrossed, take_of, done_of, take_up_of, is_too_long_tagged, mux_binding_for, is_in_message}
 use Rattle.stack_rules.specs.Sound.{outcome}
 use Rattle.rule_basics.proofs.Lives.{find_is}
 use Rattle.state_laws.proofs.Rows.{by_test}
 use Rattle.state_laws.proofs.Quiet.{is_plain}
 use Rattle.state_laws.proofs.Events.{state_after}
-use Rattle.pause_laws.specs.Clear.{Stands}
+use Rattle.pause_laws.specs.Clear.{StandsFrom}
 use Rattle.pause_laws.proofs.Lists.{not_both, hand_take, clear_found}
 use Rattle.pause_laws.proofs.Hands.{Clear, is_skipped, clear_skip}
 use Rattle.pause_laws.proofs.Routes.{go_home_from}
@@ -79,7 +80,7 @@ skip_given net g = (refl, given g.module_id)
     given (Binding b) = tt
 
 -- a list on its way
-moved_clear : (net : Net) (front : ℕ) → Facts net front → (l : LiveList) (s : Stand) (keeps : Bool) → Stands net.modules front l s → Clear net.modules front net → IsWorked net front l → Leaves net front (moved_rows net l s keeps)
+moved_clear : (net : Net) (front : ℕ) → Facts net front → (l : LiveList) (s : Stand) (keeps : Bool) → StandsFrom net.modules front l s → Clear net.modules front net → IsWorked net front l → Leaves net front (moved_rows net l s keeps)
 moved_clear net front facts l stand.Unplaced keeps s k w = k
 moved_clear net front facts l (stand.Kept m) keeps s k w = k
 moved_clear net front facts l (stand.Passed way.Down (Module m)) keeps s k w =
@@ -109,7 +110,7 @@ pump_clear net front facts keeps (Some t) e k = thing_clear net front facts t ke
 
 drained_clear : (net : Net) (front : ℕ) → Facts net front → (keeps : Bool) → Clear net.modules front net → Leaves net front (drain_outcome net keeps).rows
 drained_clear net front facts keeps k =
-    by_test (λ (o : Outcome). Leaves net front o.rows) (pump_moves net) _ _
+    by_test (λ (o : Outcome). Leaves net front o.rows) (is_pump_moving net) _ _
     (λ _. pump_clear net front facts keeps (agenda_first net) refl k)
     (λ _. drain_clear net front facts k)
 
@@ -188,7 +189,7 @@ plain_clear net front facts event.Drain c p k = drained_clear net front facts c.
 plain_clear net front facts event.CrossTake c p k = take_clear net front (first_uncrossed net) k
 plain_clear net front facts (event.CrossPut stack message vlan frames) c p k =
     by_test (LeavesAfter net front (event.CrossPut stack message vlan frames)) (phase_is_running net.phase) _ _
-    (λ t. by_test (LeavesAfter net front (event.CrossPut stack message vlan frames)) (list_any (grows_too_long net.head) frames) _ _ (λ _. k)
+    (λ t. by_test (LeavesAfter net front (event.CrossPut stack message vlan frames)) (list_any (is_too_long_tagged net.head) frames) _ _ (λ _. k)
     (λ _. by_test (LeavesAfter net front (event.CrossPut stack message vlan frames)) (is_full net (Binding (mux_binding_for net.head stack))) _ _ (λ _. k)
     (λ _. sent_clear net front facts (Binding (mux_binding_for net.head stack)) direction.Down None _ 0 (omega (arith, facts.running t)) refl k)))
     (λ _. k)

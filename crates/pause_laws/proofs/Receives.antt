@@ -15,7 +15,8 @@ use Rattle.journal_types.specs.declared.Row.TheVariants as row
 use Rattle.stack_rules.specs.declared.LiveList.{LiveList}
 use Rattle.stack_rules.specs.declared.Attached.{Attached}
 use Rattle.stack_rules.specs.Tests.{is_down, is_running, is_retain, phase_is_running}
-use Rattle.stack_rules.specs.Net.{Net, after, after_rows, lists, list_of, attached, kind_of_binding}
+use Rattle.stack_rules.specs.Heads.{kind_of_binding}
+use Rattle.stack_rules.specs.Net.{Net, after, after_rows, lists, list_of, attached}
 use Rattle.stack_rules.specs.Places.{position, position_of_target}
 use Rattle.stack_rules.specs.Targets.{homeward, turned_back}
 use Rattle.stack_rules.specs.Outcome.{list_no, config_no}

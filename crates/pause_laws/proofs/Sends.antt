@@ -15,7 +15,7 @@ use Rattle.journal_types.specs.declared.Row.TheVariants as row
 use Rattle.stack_rules.specs.declared.LiveList.{LiveList}
 use Rattle.stack_rules.specs.declared.Attached.{Attached}
 use Rattle.stack_rules.specs.Tests.{is_down, is_hold, same_frames}
-use Rattle.stack_rules.specs.Net.{Net, after, after_rows, lists, list_of, attached, had_by, kept_by}
+use Rattle.stack_rules.specs.Net.{Net, after, after_rows, lists, list_of, attached, had_by, as_kept}
 use Rattle.stack_rules.specs.Places.{position, is_full}
 use Rattle.stack_rules.specs.Targets.{onward, homeward, turned_back}
 use Rattle.stack_rules.specs.Outcome.{list_no, config_no, root}
@@ -81,7 +81,7 @@ cloned_clear net front facts a l frames k w m =
     let found_second : list_of net.next.list (lists second.things) ≡ Some new = ap (list_of net.next.list) (lists-append first.things _) ∙ found-last net.next.list (lists first.things) new refl free in
     let apart : (l.list.0 == net.next.list) ≡ false = other l.list.0 net.next.list (in_hand net front a l k w).below in
     let found_third : list_of net.next.list (lists third.things) ≡ Some new =
-    ap (list_of net.next.list) (lists-kept l.list.0 f second.things ∙ ap (λ o. with_last (others l.list.0 (lists second.things)) (kept_by f o)) beside.found)
+    ap (list_of net.next.list) (lists-kept l.list.0 f second.things ∙ ap (λ o. with_last (others l.list.0 (lists second.things)) (as_kept f o)) beside.found)
     ∙ found-moved l.list.0 net.next.list (lists second.things) _ apart refl ∙ found_second in
     go_on net.modules front facts.distinct third n l.direction (position net.modules.order f) new (hand_take net.modules front net.next.list new (lists third.things) third.next.list kept_now found_third) refl record { owner = m.at; down = λ _. omega arith } refl m.at
   where

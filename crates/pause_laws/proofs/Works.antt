@@ -16,7 +16,7 @@ use Rattle.stack_rules.specs.declared.Attached.{Attached}
 use Rattle.stack_rules.specs.declared.Thing.{Thing}
 use Rattle.stack_rules.specs.declared.Thing.TheVariants as thing
 use Rattle.stack_rules.specs.Tests.{is_running, phase_is_running}
-use Rattle.stack_rules.specs.Net.{Net, Modules, after, after_rows, lists, list_of, attached, passed_to}
+use Rattle.stack_rules.specs.Net.{Net, Modules, after, after_rows, lists, list_of, attached, as_passed}
 use Rattle.stack_rules.specs.Places.{position, is_away, agenda_first}
 use Rattle.stack_rules.specs.Sends.{first_of}
 use Rattle.stack_rules.specs.Targets.{onward}
@@ -117,7 +117,7 @@ found-apart n m (x ∷ ls) h =
 pub found_pass : (net : Net) (list : ListNo) (way : PassWay) (to : Target) (m : ℕ) → (list.0 == m) ≡ false → list_of m (lists (after net (row.Pass list way to)).things) ≡ list_of m (lists net.things)
 found_pass net list way to m a = ap (list_of m) (lists-passed list.0 way to net.things) ∙ at (list_of list.0 (lists net.things)) refl
   where
-    at : (o : Option LiveList) → list_of list.0 (lists net.things) ≡ o → list_of m (with_last (others list.0 (lists net.things)) (passed_to way to o)) ≡ list_of m (lists net.things)
+    at : (o : Option LiveList) → list_of list.0 (lists net.things) ≡ o → list_of m (with_last (others list.0 (lists net.things)) (as_passed way to o)) ≡ list_of m (lists net.things)
     at None e = found-apart list.0 m (lists net.things) a
     at (Some x) e = found-moved list.0 m (lists net.things) _ a (find_is list.0 (lists net.things) x e).0
 

@@ -21,21 +21,21 @@ IsNearest ms from to = (f : ℕ) → has_receive ms f ≡ true → is_in f ms.or
 
 -- a list stands at a position from the front on; a send goes to its owner's position or below it; a receive
 -- comes from the front's position or below it, and goes to the next filter that receives
-abbrev pub Stands : Modules → ℕ → LiveList → Stand → Type 0
-Stands ms front l stand.Unplaced = Unit {0}
-Stands ms front l (stand.Kept m) = (l.last ≡ m) × (front ≤ position ms.order m)
-Stands ms front l (stand.Passed way.Down to) = (is_down l.direction ≡ true) × (position ms.order l.owner ≤ position_of_target ms.order to)
-Stands ms front l (stand.Passed (way.Done status) to) = (is_down l.direction ≡ true) × (position ms.order l.owner ≤ position_of_target ms.order to)
-Stands ms front l (stand.Passed way.Up to) =
+abbrev pub StandsFrom : Modules → ℕ → LiveList → Stand → Type 0
+StandsFrom ms front l stand.Unplaced = Unit {0}
+StandsFrom ms front l (stand.Kept m) = (l.last ≡ m) × (front ≤ position ms.order m)
+StandsFrom ms front l (stand.Passed way.Down to) = (is_down l.direction ≡ true) × (position ms.order l.owner ≤ position_of_target ms.order to)
+StandsFrom ms front l (stand.Passed (way.Done status) to) = (is_down l.direction ≡ true) × (position ms.order l.owner ≤ position_of_target ms.order to)
+StandsFrom ms front l (stand.Passed way.Up to) =
     (is_down l.direction ≡ false) × ((front ≤ position ms.order l.last) × IsNearest ms (position ms.order l.last) (position_of_target ms.order to))
-Stands ms front l (stand.Passed (way.Back status) to) = (is_down l.direction ≡ false) × (front ≤ position_of_target ms.order to)
+StandsFrom ms front l (stand.Passed (way.Back status) to) = (is_down l.direction ≡ false) × (front ≤ position_of_target ms.order to)
 
 -- the list's owner is at the front or below it, a send was last at its owner or below it, and the list stands
 -- where it may
 pub record IsClear (ms : Modules) (front : ℕ) (l : LiveList) : Type 0 where
   pub owner : front ≤ position ms.order l.owner
   pub down : is_down l.direction ≡ true → position ms.order l.owner ≤ position ms.order l.last
-  pub stands : Stands ms front l l.stand
+  pub stands : StandsFrom ms front l l.stand
 
 -- the live lists have different numbers below the next one, and each is clear of the positions above the front
 pub record AreClear (ms : Modules) (front : ℕ) (ls : List LiveList) (next : ℕ) : Type 0 where

@@ -7,10 +7,11 @@ use Rattle.ndis_base.specs.declared.ListStatus.TheVariants.{Success, Paused, Abo
 use Rattle.journal_types.specs.declared.Row.{Row}
 use Rattle.stack_rules.specs.declared.LiveList.{LiveList}
 use Rattle.stack_rules.specs.Tests.{is_down, is_retain, is_virtual, phase_is_running}
-use Rattle.stack_rules.specs.Net.{Net, after, after_rows, kind_of_binding, binding_numbers}
+use Rattle.stack_rules.specs.Heads.{kind_of_binding, binding_numbers}
+use Rattle.stack_rules.specs.Net.{Net, after, after_rows}
 use Rattle.stack_rules.specs.Places.{position, ready_lists}
 use Rattle.stack_rules.specs.Sends.{first_of}
-use Rattle.stack_rules.specs.Cancels.{cancel_outcome, cancel_rows_at, cancelled_at, aborted, queues, is_named, holds_lists}
+use Rattle.stack_rules.specs.Cancels.{cancel_outcome, cancel_rows_at, cancelled_at, aborted, queues, is_named, is_hold_filter}
 use Rattle.stack_rules.specs.Drains.{returned_by, returns_all, passed_by, passes_all, empties, empties_ring, drain_rows, drained}
 use Rattle.rule_basics.specs.Live.{Each}
 use Rattle.state_laws.proofs.Rows.{by_test, after_rows-append}
@@ -66,7 +67,7 @@ passes_step net next facts f l r g =
 
 passes_leaves : (net : Net) → Facts net → (f : ℕ) → Leaves net (passes_all net f)
 passes_leaves net facts f =
-    by_test (Leaves net) (holds_lists net.modules f) _ _
+    by_test (Leaves net) (is_hold_filter net.modules f) _ _
     (λ _.
     let all : Going net (after_rows net (map (passed_by net f) (ready_lists net (Filter f)))) =
     steps_map (Going net) (IsReady net (Filter f)) (passed_by net f) (λ next l r g. passes_step net next facts f l r g) (ready_lists net (Filter f)) net (ready_all net (Filter f) facts.apart) (begins net facts) in

@@ -27,16 +27,17 @@ use Rattle.stack_rules.specs.declared.LiveList.{LiveList}
 use Rattle.stack_rules.specs.declared.Thing.{Thing}
 use Rattle.stack_rules.specs.declared.Thing.TheVariants as thing
 use Rattle.stack_rules.specs.Tests.{is_down, is_running, is_unbound, is_halted, is_virtual, phase_is_running}
-use Rattle.stack_rules.specs.Net.{Net, after, after_rows, lists, list_of, is_for, taken_by}
+use Rattle.stack_rules.specs.Messages.{is_for}
+use Rattle.stack_rules.specs.Net.{Net, after, after_rows, lists, list_of, taken_by}
 use Rattle.stack_rules.specs.Places.{position, is_crossed, is_full, kept_lists, is_kept_by, agenda_first, state_of}
 use Rattle.stack_rules.specs.Targets.{next_status}
 use Rattle.stack_rules.specs.Outcome.{Outcome, cross_no, oid_no, status_no}
 use Rattle.stack_rules.specs.Receives.{give_back_of}
 use Rattle.stack_rules.specs.Drains.{drain_outcome}
-use Rattle.stack_rules.specs.Pumps.{moved_rows, thing_rows, request_pump, pump_of, pump_moves}
+use Rattle.stack_rules.specs.Pumps.{moved_rows, thing_rows, request_pump, pump_of, is_pump_moving}
 use Rattle.stack_rules.specs.Requests.{Giving, given_rows_by, giving_rows, next_giving}
 use Rattle.stack_rules.specs.Statuses.{seen_by_all, status_rows}
-use Rattle.stack_rules.specs.Crosses.{first_uncrossed, take_of, done_of, take_up_of, grows_too_long, mux_binding_for, is_in_message}
+use Rattle.stack_rules.specs.Crosses.{first_uncrossed, take_of, done_of, take_up_of, is_too_long_tagged, mux_binding_for, is_in_message}
 use Rattle.stack_rules.specs.Sound.{outcome}
 use Rattle.rule_basics.proofs.Lives.{find_is}
 use Rattle.state_laws.proofs.Rows.{by_test}
@@ -145,7 +146,7 @@ pump_leaves net facts keeps (Some t) e = thing_leaves net facts t keeps e
 
 drain_leaves : (net : Net) → Facts net → (keeps : Bool) → Leaves net (drain_outcome net keeps).rows
 drain_leaves net facts keeps =
-    by_test (λ (o : Outcome). Leaves net o.rows) (pump_moves net) _ _
+    by_test (λ (o : Outcome). Leaves net o.rows) (is_pump_moving net) _ _
     (λ _. pump_leaves net facts keeps (agenda_first net) refl)
     (λ _. drained_leaves net facts)
 
@@ -249,7 +250,7 @@ plain_leaves net facts event.CrossTake c p = take_leaves net facts (first_uncros
 plain_leaves net facts (event.CrossPut stack message vlan frames) c p =
     let K : Outcome → Type 0 = LeavesAfter net (event.CrossPut stack message vlan frames) in
     by_test K (phase_is_running net.phase) _ _
-    (λ t. by_test K (list_any (grows_too_long net.head) frames) _ _ (λ _. facts.good)
+    (λ t. by_test K (list_any (is_too_long_tagged net.head) frames) _ _ (λ _. facts.good)
     (λ _. by_test K (is_full net (Binding (mux_binding_for net.head stack))) _ _ (λ _. facts.good)
     (λ _. (sent_goes net (after net (row.CrossIn stack message crossing.Down frames)) facts net.next.list (mux_binding_for net.head stack) None _ refl
     (goes_skip net.modules.order (is_virtual net.head.kind) net net (row.CrossIn stack message crossing.Down frames) refl (begins net facts))).now)))

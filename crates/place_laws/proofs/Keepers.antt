@@ -10,7 +10,7 @@ use Rattle.stack_rules.specs.declared.LiveList.{LiveList}
 use Rattle.stack_rules.specs.declared.Stand.TheVariants as stand
 use Rattle.stack_rules.specs.Tests.{is_virtual}
 use Rattle.stack_rules.specs.Net.{Net, lists, list_of}
-use Rattle.stack_rules.specs.Places.{is_kept_by, kept_lists, ready_lists, waits, is_clone_of, has_clone, is_crossed}
+use Rattle.stack_rules.specs.Places.{is_kept_by, kept_lists, ready_lists, is_waiting, is_clone_of, has_clone, is_crossed}
 use Rattle.rule_basics.specs.Live.{is_live, IsApart, Each}
 use Rattle.rule_basics.proofs.Lives.{find_is}
 use Rattle.rule_basics.proofs.Each.{Each-implies}
@@ -90,9 +90,9 @@ pub record IsReady (net : Net) (m : ModuleId) (l : LiveList) : Type 0 where
 
 pub ready_all : (net : Net) (m : ModuleId) → IsApart (lists net.things) → Each (IsReady net m) (ready_lists net m)
 ready_all net m a =
-    Each-implies (λ l. IsKeptLive net m l × (not (waits net l) ≡ true)) (IsReady net m)
+    Each-implies (λ l. IsKeptLive net m l × (not (is_waiting net l) ≡ true)) (IsReady net m)
     (λ l h. record { free = record { found = h.0.found; free = uncloned_of net l.list.0 (neither (is_crossed l.crossed) (has_clone net l.list.0) h.1) }; stand = h.0.stand }) (ready_lists net m)
-    (each_filter (IsKeptLive net m) (λ l. not (waits net l)) (kept_lists net m) (kept_live net m a))
+    (each_filter (IsKeptLive net m) (λ l. not (is_waiting net l)) (kept_lists net m) (kept_live net m a))
   where
     neither : (a b : Bool) → not (a || b) ≡ true → b ≡ false
     neither true b h = cc

@@ -15,7 +15,7 @@ use Rattle.journal_types.specs.declared.OutWay.TheVariants as out
 use Rattle.journal_types.specs.declared.Row.TheVariants as row
 use Rattle.stack_rules.specs.declared.LiveList.{LiveList}
 use Rattle.stack_rules.specs.declared.Stand.TheVariants as stand
-use Rattle.stack_rules.specs.Net.{Net, after, lists, list_of, had_by, taken_by, passed_to, kept_by}
+use Rattle.stack_rules.specs.Net.{Net, after, lists, list_of, had_by, taken_by, as_passed, as_kept}
 use Rattle.rule_basics.specs.Live.{is_live, others, retouched, with_last, KeepsNumber}
 use Rattle.rule_basics.proofs.Lists.{lists-append, lists-without, lists-changed, lists-kept, lists-passed}
 use Rattle.rule_basics.proofs.Lives.{find_is, is_live-others}
@@ -87,11 +87,11 @@ touched : (n : ℕ) (ls : List LiveList) (g : LiveList → LiveList) → KeepsNu
 touched n ls g k None e = none-touched n g k ls e
 touched n ls g k (Some x) e = found-touched n g k ls x e
 
-passed_map : (way : PassWay) (to : Target) (o : Option LiveList) → passed_to way to o ≡ option_map (passing way to) o
+passed_map : (way : PassWay) (to : Target) (o : Option LiveList) → as_passed way to o ≡ option_map (passing way to) o
 passed_map way to None = refl
 passed_map way to (Some x) = refl
 
-kept_map : (m : ModuleId) (o : Option LiveList) → kept_by m o ≡ option_map (keeping m) o
+kept_map : (m : ModuleId) (o : Option LiveList) → as_kept m o ≡ option_map (keeping m) o
 kept_map m None = refl
 kept_map m (Some x) = refl
 

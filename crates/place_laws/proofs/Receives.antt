@@ -11,7 +11,8 @@ use Rattle.journal_types.specs.declared.Target.TheVariants.{Module, Bindings}
 use Rattle.stack_rules.specs.declared.LiveList.{LiveList}
 use Rattle.stack_rules.specs.declared.Attached.{Attached}
 use Rattle.stack_rules.specs.Tests.{is_down, is_virtual, is_running, is_retain, phase_is_running}
-use Rattle.stack_rules.specs.Net.{Net, after, after_rows, attached, kind_of_binding}
+use Rattle.stack_rules.specs.Heads.{kind_of_binding}
+use Rattle.stack_rules.specs.Net.{Net, after, after_rows, attached}
 use Rattle.stack_rules.specs.Places.{is_crossed}
 use Rattle.stack_rules.specs.Deliveries.{takers, echoes, echoed, how_for, delivered, last_of, settled}
 use Rattle.stack_rules.specs.Receives.{up_at_filter, up_rows}

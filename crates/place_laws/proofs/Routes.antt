@@ -28,7 +28,7 @@ use Rattle.place_laws.proofs.Rows.{IsAlike, Goes, goes_pass, goes_back, goes_iss
 
 -- a status goes to a filter or to the bindings
 pub status_up : (ms : Modules) (i : ℕ) → GoesUp (next_status ms i)
-status_up ms i = found_or GoesUp (has_status ms) (filters_above ms i) Bindings (λ f h x. refl) tt
+status_up ms i = found_or GoesUp (has_status ms) (reverse (filters_above ms i)) Bindings (λ f h x. refl) tt
 
 -- a list that was live at the turn's begin, and had no clone
 pub record IsFree (start : Net) (l : LiveList) : Type 0 where
@@ -44,7 +44,7 @@ module _ (ms : Modules) (virtual : Bool) (d : IsDistinct ms.order) where
 
   pub up_stands : (i : ℕ) (owner : ModuleId) → i ≤ position ms.order owner → StandsAt ms.order false owner (stand.Passed way.Up (next_up ms i))
   up_stands i owner a =
-      found_or (λ t. StandsAt ms.order false owner (stand.Passed way.Up t)) (has_receive ms) (filters_above ms i) Bindings
+      found_or (λ t. StandsAt ms.order false owner (stand.Passed way.Up t)) (has_receive ms) (reverse (filters_above ms i)) Bindings
       (λ f h x.
       let first : is_in f (take (i - 1) ms.order) ≡ true = sym (in_reverse f (take (i - 1) ms.order)) ∙ x in
       (refl, record { there = in_take f (i - 1) ms.order first; sent = λ t. cc; risen = λ t. omega (arith, a, take_high f (i - 1) ms.order first) })) refl

@@ -32,7 +32,7 @@ use Rattle.state_laws.proofs.Events.{state_after, at_phase, event_kept, plain_sa
 use Rattle.pause_laws.specs.Clear.{IsHeld}
 use Rattle.pause_laws.proofs.Fronts.{none_live}
 use Rattle.pause_laws.proofs.Turns.{held_journal}
-use Rattle.place_laws.specs.Kept.{Stands, IsPlaced, HasOriginal}
+use Rattle.place_laws.specs.Kept.{StandsPlaced, IsPlaced, HasOriginal}
 use Rattle.place_laws.specs.Listed.{EachIsListed}
 use Rattle.place_laws.proofs.Good.{StandsAt, cloned_from, IsWell, IsFrom, AreGood, good_none}
 use Rattle.place_laws.proofs.Looks.{look}
@@ -170,7 +170,7 @@ states_of net s other = by net.phase refl
     by phase.Pausing e = record { states = state_at s.front (s.front + 1); none = none_at s.front (s.front + 1); are = (at_phase net phase.Pausing s e).1.states }
 
 -- what is kept says where each list stands
-stands_of : (ms : Modules) (l : LiveList) (s : Stand) → StandsAt ms.order (is_down l.direction) l.owner s → Stands ms l s
+stands_of : (ms : Modules) (l : LiveList) (s : Stand) → StandsAt ms.order (is_down l.direction) l.owner s → StandsPlaced ms l s
 stands_of ms l stand.Unplaced h = tt
 stands_of ms l (stand.Kept Miniport) h = h
 stands_of ms l (stand.Kept (Filter f)) h = h.there

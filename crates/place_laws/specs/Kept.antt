@@ -25,7 +25,7 @@ use Rattle.stack_rules.specs.declared.RequestAt.TheVariants as at
 use Rattle.stack_rules.specs.declared.Thing.{Thing}
 use Rattle.stack_rules.specs.declared.Thing.TheVariants as thing
 use Rattle.stack_rules.specs.Net.{request_of}
-use Rattle.rule_basics.specs.Live.{Each}
+use Rattle.rule_basics.specs.Live.{Each, EachRequest, EachApart}
 use Rattle.rule_basics.specs.Numbers.{IsNumbered}
 use Rattle.state_laws.specs.Shape.{IsDistinct}
 
@@ -38,28 +38,28 @@ StopsAbove ms owner m = (m ≡ owner) ⊎ (position ms.order m < position ms.ord
 
 -- a list is kept by a module that may have it; a send goes down to a filter of the order or to the miniport, a
 -- receive up to such a filter or to the bindings
-abbrev pub Stands : Modules → LiveList → Stand → Type 0
-Stands ms l stand.Unplaced = Unit {0}
-Stands ms l (stand.Kept Miniport) = is_down l.direction ≡ true
-Stands ms l (stand.Kept (Filter f)) = is_in f ms.order ≡ true
-Stands ms l (stand.Kept (Binding b)) = is_down l.direction ≡ false
-Stands ms l (stand.Passed way.Down (Module Miniport)) = is_down l.direction ≡ true
-Stands ms l (stand.Passed way.Down (Module (Filter f))) = (is_down l.direction ≡ true) × (is_in f ms.order ≡ true)
-Stands ms l (stand.Passed way.Down _) = ⊥
-Stands ms l (stand.Passed way.Up Bindings) = is_down l.direction ≡ false
-Stands ms l (stand.Passed way.Up (Module (Filter f))) = (is_down l.direction ≡ false) × (is_in f ms.order ≡ true)
-Stands ms l (stand.Passed way.Up _) = ⊥
-Stands ms l (stand.Passed (way.Done status) (Module m)) = (is_down l.direction ≡ true) × StopsBelow ms l.owner m
-Stands ms l (stand.Passed (way.Done status) Bindings) = ⊥
-Stands ms l (stand.Passed (way.Back status) (Module m)) = (is_down l.direction ≡ false) × StopsAbove ms l.owner m
-Stands ms l (stand.Passed (way.Back status) Bindings) = ⊥
+abbrev pub StandsPlaced : Modules → LiveList → Stand → Type 0
+StandsPlaced ms l stand.Unplaced = Unit {0}
+StandsPlaced ms l (stand.Kept Miniport) = is_down l.direction ≡ true
+StandsPlaced ms l (stand.Kept (Filter f)) = is_in f ms.order ≡ true
+StandsPlaced ms l (stand.Kept (Binding b)) = is_down l.direction ≡ false
+StandsPlaced ms l (stand.Passed way.Down (Module Miniport)) = is_down l.direction ≡ true
+StandsPlaced ms l (stand.Passed way.Down (Module (Filter f))) = (is_down l.direction ≡ true) × (is_in f ms.order ≡ true)
+StandsPlaced ms l (stand.Passed way.Down _) = ⊥
+StandsPlaced ms l (stand.Passed way.Up Bindings) = is_down l.direction ≡ false
+StandsPlaced ms l (stand.Passed way.Up (Module (Filter f))) = (is_down l.direction ≡ false) × (is_in f ms.order ≡ true)
+StandsPlaced ms l (stand.Passed way.Up _) = ⊥
+StandsPlaced ms l (stand.Passed (way.Done status) (Module m)) = (is_down l.direction ≡ true) × StopsBelow ms l.owner m
+StandsPlaced ms l (stand.Passed (way.Done status) Bindings) = ⊥
+StandsPlaced ms l (stand.Passed (way.Back status) (Module m)) = (is_down l.direction ≡ false) × StopsAbove ms l.owner m
+StandsPlaced ms l (stand.Passed (way.Back status) Bindings) = ⊥
 
 -- the owner of a send is above the miniport, that of a receive below the bindings; a list that crossed is a
 -- send in a virtual miniport's ring
 pub record IsPlaced (net : Net) (l : LiveList) : Type 0 where
   pub down : is_down l.direction ≡ true → position net.modules.order l.owner < position net.modules.order Miniport
   pub up : is_down l.direction ≡ false → 1 ≤ position net.modules.order l.owner
-  pub stands : Stands net.modules l l.stand
+  pub stands : StandsPlaced net.modules l l.stand
   pub crossed : is_crossed l.crossed ≡ true → (l.stand ≡ stand.Kept Miniport) × (is_virtual net.head.kind ≡ true)
 
 -- the list that a clone was made of is kept by the filter that owns the clone; its own owner is further up for a
@@ -113,22 +113,12 @@ EachAnswer P (thing.Answer a ∷ ts) = P a × EachAnswer P ts
 EachAnswer P (thing.List l ∷ ts) = EachAnswer P ts
 EachAnswer P (thing.Status s ∷ ts) = EachAnswer P ts
 
--- a fact of each request
-abbrev pub EachRequest : (Request → Type 0) → List Request → Type 0
-EachRequest P [] = Unit {0}
-EachRequest P (r ∷ rs) = P r × EachRequest P rs
-
 -- a fact of each status
 abbrev pub EachStatus : (StatusAway → Type 0) → List Thing → Type 0
 EachStatus P [] = Unit {0}
 EachStatus P (thing.Status s ∷ ts) = P s × EachStatus P ts
 EachStatus P (thing.List l ∷ ts) = EachStatus P ts
 EachStatus P (thing.Answer a ∷ ts) = EachStatus P ts
-
--- no two requests have the same number
-abbrev pub EachApart : List Request → Type 0
-EachApart [] = Unit {0}
-EachApart (r ∷ rs) = EachRequest (λ q. (q.request.0 == r.request.0) ≡ false) rs × EachApart rs
 
 -- Everything stands where it may: the stack has a binding, its filters are attached; each list is placed and, if
 -- it is a clone, has its original; each status goes up; each clone of a request waits below its parent, and each

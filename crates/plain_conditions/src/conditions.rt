@@ -2,7 +2,7 @@
 ghost use Rattle.std.specs.Prelude.{◌≡◌, ◌+◌, ◌≤◌, length, slice_index_or};
 ghost use Rattle.std.specs.List.{list_all, list_any};
 ghost use Rattle.ndis_base.specs.declared.ProtocolKind.TheVariants as protocol_kind;
-ghost use Rattle.stack_rules.specs.Net.{numbers_from};
+ghost use Rattle.stack_rules.specs.Heads.{numbers_from};
 ghost use Rattle.stack_rules.specs.Tests.{is_mux};
 ghost use Rattle.stack_rules.specs.Conditions.{is_frame, are_frames, is_fine_test, is_program, is_setup, has_binding, is_identifier, is_cancel, is_link, has_mux, is_lower, may_ask};
 
@@ -170,7 +170,9 @@ pub fn may_ask(head: &StackHead, event: &Event) -> bool
             ..
         } => has_mux(head)
             && (*stack < 4 && ((1 <= *vlan && *vlan <= 4094) && are_frames(head, frames))),
-        Event::CrossTakeUp { binding, vlan } => has_link(*binding, *vlan, head.uppers.items()),
+        Event::CrossTakeUp { binding, vlan } => {
+            has_binding(head, *binding) && has_link(*binding, *vlan, head.uppers.items())
+        }
         Event::CrossPutUp { stack, frames, .. } => is_lower(*stack, head.link)
             && are_frames(head, frames),
         _ => true,

@@ -11,9 +11,11 @@ ghost use Rattle.std.specs.List.{list_any};
 ghost use Rattle.program_types.specs.Apply.{pushed};
 ghost use Rattle.journal_types.specs.declared.Row.TheVariants as row;
 ghost use Rattle.journal_types.specs.declared.Way.TheVariants as crossing;
-ghost use Rattle.stack_rules.specs.Net.{lists, is_for, kind_of_binding};
+ghost use Rattle.stack_rules.specs.Heads.{kind_of_binding};
+ghost use Rattle.stack_rules.specs.Messages.{is_for};
+ghost use Rattle.stack_rules.specs.Net.{lists};
 ghost use Rattle.stack_rules.specs.Places.{is_crossed};
-ghost use Rattle.stack_rules.specs.Crosses.{take_of, take_outcome, links_from, lowest_mux, binding_of_link, mux_binding_for, grows_too_long, put_rows, put_outcome, is_in_message, done_of, done_outcome, take_up_of, take_up_outcome, put_up_outcome};
+ghost use Rattle.stack_rules.specs.Crosses.{take_of, take_outcome, is_link_from, lowest_mux, binding_of_link, mux_binding_for, is_too_long_tagged, put_rows, put_outcome, is_in_message, done_of, done_outcome, take_up_of, take_up_outcome, put_up_outcome};
 
 use journal_types::{Frames, OutWay, Refusal, Reply, Row, StackHead, Way};
 use ndis_base::{
@@ -123,7 +125,7 @@ fn lowest_mux(alloc: Global, head: &StackHead) -> Result<u32, OutOfMemory>
 }
 
 fn link_from(stack: u8, links: &[(u8, u32, u16)]) -> Option<&(u8, u32, u16)>
-    ensures { option_copied result ≡ find (links_from stack) links.now }
+    ensures { option_copied result ≡ find (is_link_from stack) links.now }
 {
     for link in links {
         if link.0 == stack {
@@ -154,7 +156,7 @@ fn mux_binding_for(alloc: Global, head: &StackHead, stack: u8) -> Result<u32, Ou
 }
 
 fn any_grows_too_long(head: &StackHead, frames: &[Frame]) -> bool
-    ensures { result ≡ list_any (grows_too_long head.now) frames.now }
+    ensures { result ≡ list_any (is_too_long_tagged head.now) frames.now }
 {
     for frame in frames {
         if MAX_FRAME < frame.bytes().len() + 4 {

@@ -1,7 +1,7 @@
 //! Delivery to the bindings.
 ghost use Rattle.std.specs.Prelude.{◌≡◌, IfOk, slice_index, slice_index_or, []};
 ghost use Rattle.journal_types.specs.declared.Row.TheVariants as row;
-ghost use Rattle.stack_rules.specs.Deliveries.{is_broadcast, is_multicast, takes, takers, echoes, echoed, how_for, delivered, last_of, settled, delivery_rows};
+ghost use Rattle.stack_rules.specs.Deliveries.{is_broadcast, is_multicast, is_taken_by, takers, echoes, echoed, how_for, delivered, last_of, settled, delivery_rows};
 
 use journal_types::{Frames, How, Row};
 use ndis_base::{Direction, ListNo, ListStatus, ModuleId, OutOfMemory};
@@ -31,7 +31,7 @@ fn is_multicast(frame: &[u8]) -> bool
 
 /// Whether a packet filter takes a frame.
 fn takes(value: u32, address: &[u8], frame: &[u8]) -> bool
-    ensures { result ≡ takes value address.now frame.now }
+    ensures { result ≡ is_taken_by value address.now frame.now }
 {
     (value & 1 == 1 && same_bytes(front_of(frame, 6), address))
         || ((value & 4 == 4 && is_multicast(frame))
@@ -58,7 +58,7 @@ fn first_frame(frames: &Frames) -> &[u8]
 }
 
 fn takes_at(net: &PlainNet, frames: &Frames, b: u32) -> bool
-    ensures { result ≡ takes (slice_index net.now.port.delivers_by b) net.now.head.port.address (slice_index_or frames.now 0 []) }
+    ensures { result ≡ is_taken_by (slice_index net.now.port.delivers_by b) net.now.head.port.address (slice_index_or frames.now 0 []) }
 {
     takes(
         filter_at(net.port().delivers_by(), b),

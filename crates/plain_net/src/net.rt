@@ -3,7 +3,9 @@ ghost use Rattle.std.specs.Prelude.{◌≡◌, ◌==◌, not, [], IfOk, OnOk, So
 ghost use Rattle.journal_types.specs.declared.Row.TheVariants as row;
 ghost use Rattle.journal_types.specs.declared.PhaseOf.TheVariants as of;
 ghost use Rattle.stack_rules.specs.Outcome.{list_no, config_no};
-ghost use Rattle.stack_rules.specs.Net.{start, after, changed, had_by, told, with_filter, without, without_status, messages_after, things_done, port_done, things_out, port_out, port_after, request_of};
+ghost use Rattle.stack_rules.specs.Port.{port_after_done, port_after_out};
+ghost use Rattle.stack_rules.specs.Messages.{messages_after};
+ghost use Rattle.stack_rules.specs.Net.{start, after, after_change, had_by, told, with_filter, without, without_status, things_after_done, things_after_out, port_after, request_of};
 
 use journal_types::{
     Event, FilterList, Frames, OutWay, PassWay, PhaseOf, Reply, Row, Setup, StackHead, Target,
@@ -161,7 +163,7 @@ impl PlainNet {
     }
 
     fn note_give(&mut self, list: ListNo, m: ModuleId) -> Result<(), OutOfMemory>
-        ensures { OnOk result (self.new ≡ record self.old { things = changed list.0 (had_by m) self.old.things }) }
+        ensures { OnOk result (self.new ≡ record self.old { things = after_change list.0 (had_by m) self.old.things }) }
     {
         let things = self.take_things();
         self.things = things_had_by(self.alloc, list.0, m, things)?;
@@ -299,7 +301,7 @@ impl PlainNet {
         status: OidStatus,
         value: &OidValue,
     ) -> Result<(), OutOfMemory>
-        ensures { OnOk result (self.new ≡ record self.old { things = things_done (Some r.now) request status value.now self.old.things; port = port_done (Some r.now) status self.old.port }) }
+        ensures { OnOk result (self.new ≡ record self.old { things = things_after_done (Some r.now) request status value.now self.old.things; port = port_after_done (Some r.now) status self.old.port }) }
     {
         let things = self.take_things();
         self.things = things_done(self.alloc, r, request, status, value, things)?;
@@ -347,7 +349,7 @@ impl PlainNet {
     }
 
     fn note_out(&mut self, message: CrossNo, way: OutWay, many: usize) -> Result<(), OutOfMemory>
-        ensures { OnOk result (self.new ≡ record self.old { things = things_out message.0 way self.old.things; port = port_out self.old.head way many self.old.port }) }
+        ensures { OnOk result (self.new ≡ record self.old { things = things_after_out message.0 way self.old.things; port = port_after_out way many self.old.port }) }
     {
         match way {
             OutWay::Up => Ok(()),

@@ -3,7 +3,7 @@ ghost use Rattle.std.specs.Prelude.{◌≡◌, IfOk, option_copied, filter, reve
 ghost use Rattle.journal_types.specs.declared.Row.TheVariants as row;
 ghost use Rattle.stack_rules.specs.OidTable.{report_of};
 ghost use Rattle.stack_rules.specs.Net.{has_oid};
-ghost use Rattle.stack_rules.specs.Requests.{is_given_to, waits_at, is_at_entry, is_busy, has_waiting, first_waiting, filter_ids, oid_modules, giving_to, lowest_giving, entry_giving, next_giving, given_rows_by, giving_rows, answer_rows, ask_outcome};
+ghost use Rattle.stack_rules.specs.Requests.{is_given_to, is_waiting_at, is_at_entry, is_busy, has_waiting, first_waiting, filter_ids, oid_modules, giving_to, lowest_giving, entry_giving, next_giving, given_rows_by, giving_rows, answer_rows, ask_outcome};
 
 use crate::table::report_of;
 use journal_types::{Refusal, Reply, Row};
@@ -46,7 +46,7 @@ fn is_given_to(m: ModuleId, at: RequestAt) -> bool
 }
 
 fn waits_at(m: ModuleId, at: RequestAt) -> bool
-    ensures { result ≡ waits_at m at }
+    ensures { result ≡ is_waiting_at m at }
 {
     match at {
         RequestAt::Waiting(holder) => same_module(holder, m),

@@ -1,7 +1,7 @@
 //! What the miniport answers to OID requests. Values have the least significant byte first.
 ghost use Rattle.std.specs.Prelude.{◌≡◌, [], slice_index};
 ghost use Rattle.ndis_base.specs.declared.OidStatus.TheVariants.{Success, NotSupported, BadLength};
-ghost use Rattle.stack_rules.specs.OidTable.{queried, query_only, may_set, filter_set, packet_filter, report_of, reported};
+ghost use Rattle.stack_rules.specs.OidTable.{queried, query_only, may_set, packet_filter_set, packet_filter, report_of, reported};
 
 use ndis_base::{OidKind, OidStatus, OidValue};
 use plain_net::PlainNet;
@@ -107,7 +107,7 @@ fn may_set(value: u32) -> bool
 }
 
 fn filter_set(asked: &OidValue) -> PlainReport
-    ensures { result ≡ filter_set asked.now }
+    ensures { result ≡ packet_filter_set asked.now }
 {
     if asked.bytes().len() != 4 {
         bad_length()

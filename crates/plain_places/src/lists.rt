@@ -3,8 +3,9 @@ ghost use Rattle.std.specs.Prelude.{◌≡◌, ◌+◌, IfOk, option_copied, fil
 ghost use Rattle.std.specs.List.{list_any};
 ghost use Rattle.ndis_base.specs.declared.ModuleState.TheVariants as state;
 ghost use Rattle.ndis_base.specs.declared.ProtocolKind.TheVariants as protocol_kind;
-ghost use Rattle.stack_rules.specs.Net.{lists, binding_numbers, numbers_from};
-ghost use Rattle.stack_rules.specs.Places.{is_away, counts_at, outstanding, is_kept_by, kept_lists, is_clone_of, has_clone, waits, ready_lists, agenda_first, owned, pool_of, is_full, state_of};
+ghost use Rattle.stack_rules.specs.Heads.{binding_numbers, numbers_from};
+ghost use Rattle.stack_rules.specs.Net.{lists};
+ghost use Rattle.stack_rules.specs.Places.{is_away, is_counted_at, outstanding, is_kept_by, kept_lists, is_clone_of, has_clone, is_waiting, ready_lists, agenda_first, owned, pool_of, is_full, state_of};
 ghost use Rattle.stack_rules.specs.Tests.{same_module};
 
 use crate::places::{counts_at, is_away, is_clone_of, is_crossed, is_kept_by};
@@ -18,7 +19,7 @@ use stack_rules::{LiveList, Thing};
 use std::alloc::Global;
 
 fn count_outstanding(order: &[u64], i: usize, things: &[Thing]) -> usize
-    ensures { result ≡ count_by (counts_at order.now i) (lists things.now) }
+    ensures { result ≡ count_by (is_counted_at order.now i) (lists things.now) }
 {
     let mut n = 0;
     for t in things {
@@ -81,7 +82,7 @@ pub fn has_clone(net: &PlainNet, n: u64) -> bool
 
 /// Whether a kept list waits: it has crossed to another stack, or a clone of it is live.
 pub fn waits(net: &PlainNet, l: &LiveList) -> bool
-    ensures { result ≡ waits net.now l.now }
+    ensures { result ≡ is_waiting net.now l.now }
 {
     is_crossed(l.crossed) || has_clone(net, l.list.0)
 }

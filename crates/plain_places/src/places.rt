@@ -2,7 +2,7 @@
 //! and then the miniport.
 ghost use Rattle.std.specs.Prelude.{◌≡◌, ◌≤◌, Some, length};
 ghost use Rattle.stack_rules.specs.declared.Stand.TheVariants as stand;
-ghost use Rattle.stack_rules.specs.Places.{above, position, position_of_target, position_in, is_at_most, counts_at, is_kept_by, is_passed, is_clone_of, is_crossed, is_away};
+ghost use Rattle.stack_rules.specs.Places.{above, position, position_of_target, position_in, is_at_most, is_counted_at, is_kept_by, is_passed, is_clone_of, is_crossed, is_away};
 
 use journal_types::{PassWay, Target};
 use ndis_base::{CrossNo, ModuleId, Origin};
@@ -74,7 +74,7 @@ fn is_at_most(i: usize, p: Option<usize>) -> bool
 
 /// Whether a list is outstanding at a position: a module there owns it, or it stands there or above.
 pub fn counts_at(order: &[u64], i: usize, l: &LiveList) -> bool
-    ensures { result ≡ counts_at order.now i l.now }
+    ensures { result ≡ is_counted_at order.now i l.now }
 {
     position(order, l.owner) == i || is_at_most(i, position_in(order, l.last, l.stand))
 }

@@ -83,24 +83,16 @@ fn first_noticing(ms: &PlainModules, filters: &[u64], other: Target) -> Target
     }
 }
 
-fn filters_above(alloc: Global, ms: &PlainModules, i: usize) -> Result<Vec<u64>, OutOfMemory>
-    ensures { IfOk result (λ filters. filters.items ≡ filters_above ms.now i) }
+fn filters_above(ms: &PlainModules, i: usize) -> &[u64]
+    ensures { result.now ≡ filters_above ms.now i }
 {
-    reversed(alloc, front_of(ms.order(), i.saturating_sub(1)))
+    front_of(ms.order(), i.saturating_sub(1))
 }
 
-fn filters_between(
-    alloc: Global,
-    ms: &PlainModules,
-    top: usize,
-    i: usize,
-) -> Result<Vec<u64>, OutOfMemory>
-    ensures { IfOk result (λ filters. filters.items ≡ filters_between ms.now top i) }
+fn filters_between(ms: &PlainModules, top: usize, bottom: usize) -> &[u64]
+    ensures { result.now ≡ filters_between ms.now top bottom }
 {
-    reversed(
-        alloc,
-        rest_of(front_of(ms.order(), i.saturating_sub(1)), top),
-    )
+    rest_of(filters_above(ms, bottom), top)
 }
 
 /// A send goes down to the next filter with the send pair, else to the miniport.
@@ -118,7 +110,7 @@ pub fn next_down(ms: &PlainModules, i: usize) -> Target
 pub fn next_up(alloc: Global, ms: &PlainModules, i: usize) -> Result<Target, OutOfMemory>
     ensures { IfOk result (λ to. to ≡ next_up ms.now i) }
 {
-    let filters = filters_above(alloc, ms, i)?;
+    let filters = reversed(alloc, filters_above(ms, i))?;
     Ok(first_receiving(ms, filters.as_slice(), Target::Bindings))
 }
 
@@ -131,7 +123,7 @@ pub fn next_done(
 ) -> Result<Target, OutOfMemory>
     ensures { IfOk result (λ to. to ≡ next_done ms.now i owner) }
 {
-    let filters = filters_between(alloc, ms, position(ms.order(), owner), i)?;
+    let filters = reversed(alloc, filters_between(ms, position(ms.order(), owner), i))?;
     Ok(first_sending(ms, filters.as_slice(), Target::Module(owner)))
 }
 
@@ -139,15 +131,15 @@ pub fn next_done(
 pub fn next_back(ms: &PlainModules, i: usize, owner: ModuleId) -> Target
     ensures { result ≡ next_back ms.now i owner }
 {
-    let above = front_of(ms.order(), position(ms.order(), owner).saturating_sub(1));
-    first_receiving(ms, rest_of(above, i), Target::Module(owner))
+    let between = filters_between(ms, i, position(ms.order(), owner));
+    first_receiving(ms, between, Target::Module(owner))
 }
 
 /// A status goes up to the next filter with the status handler, else to the bindings.
 pub fn next_status(alloc: Global, ms: &PlainModules, i: usize) -> Result<Target, OutOfMemory>
     ensures { IfOk result (λ to. to ≡ next_status ms.now i) }
 {
-    let filters = filters_above(alloc, ms, i)?;
+    let filters = reversed(alloc, filters_above(ms, i))?;
     Ok(first_noticing(ms, filters.as_slice(), Target::Bindings))
 }
 

@@ -1,7 +1,7 @@
 //! What the miniport answers requests by, and the packet filters by which lists are delivered to bindings.
 ghost use Rattle.std.specs.Prelude.{◌≡◌, ◌+◌, OnOk, IfOk, replicate, Some};
 ghost use Rattle.std.specs.Int.{from_le_bytes, w32};
-ghost use Rattle.stack_rules.specs.Net.{port_done, set_when, sets_filter, is_given_to_miniport, no_parent};
+ghost use Rattle.stack_rules.specs.Port.{port_after_done, filters_set_when, sets_packet_filter, is_given_to_miniport, is_root_request};
 
 use ndis_base::{ModuleId, OidKind, OidNo, OidStatus, OutOfMemory};
 use plain_parts::rows::sum_of;
@@ -27,7 +27,7 @@ pub struct PlainPort {
 }
 
 impl Model for PlainPort {
-    ghost use Rattle.stack_rules.specs.Net.{Port};
+    ghost use Rattle.stack_rules.specs.Port.{Port};
 
     ghost Value = { Port };
 
@@ -69,7 +69,7 @@ pub fn filter_in(value: &[u8]) -> u32
 }
 
 fn sets_filter(r: &Request, status: OidStatus) -> bool
-    ensures { result ≡ sets_filter r.now status }
+    ensures { result ≡ sets_packet_filter r.now status }
 {
     matches!(status, OidStatus::Success)
         && matches!(r.kind, OidKind::Set)
@@ -86,7 +86,7 @@ fn is_given_to_miniport(at: RequestAt) -> bool
 }
 
 fn no_parent(parent: Option<OidNo>) -> bool
-    ensures { result ≡ no_parent parent }
+    ensures { result ≡ is_root_request parent }
 {
     match parent {
         None => true,
@@ -95,7 +95,7 @@ fn no_parent(parent: Option<OidNo>) -> bool
 }
 
 fn set_when(b: bool, filters: &mut Vec<u32>, binding: u32, value: &[u8])
-    ensures { filters.new.items ≡ set_when b filters.old.items binding value.now }
+    ensures { filters.new.items ≡ filters_set_when b filters.old.items binding value.now }
 {
     if b && (binding as usize) < filters.len() {
         filters[binding as usize] = filter_in(value);
@@ -149,7 +149,7 @@ impl PlainPort {
 
     /// Takes the packet filter of a request that was answered, where it sets one.
     pub fn take_done(&mut self, r: &Request, status: OidStatus)
-        ensures { self.new ≡ port_done (Some r.now) status self.old }
+        ensures { self.new ≡ port_after_done (Some r.now) status self.old }
     {
         let sets = sets_filter(r, status);
         let answers = sets && is_given_to_miniport(r.at);

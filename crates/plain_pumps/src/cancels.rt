@@ -2,7 +2,7 @@
 ghost use Rattle.std.specs.Prelude.{◌≡◌, ◌∷◌, ◌++◌, [], IfOk, length, filter, map};
 ghost use Rattle.std.specs.List.{flat_map};
 ghost use Rattle.ndis_base.specs.declared.ModuleId.TheVariants.{Filter, Miniport};
-ghost use Rattle.stack_rules.specs.Cancels.{holds_lists, is_named, cancelled_at, aborted, cancel_rows_at, queues, cancel_outcome};
+ghost use Rattle.stack_rules.specs.Cancels.{is_hold_filter, is_named, cancelled_at, aborted, cancel_rows_at, queues, cancel_outcome};
 
 use journal_types::{Reply, Row};
 use ndis_base::{ListStatus, ModuleId, OutOfMemory};
@@ -71,7 +71,7 @@ fn cancel_rows_at(
 }
 
 fn queues_in(alloc: Global, ms: &PlainModules, order: &[u64]) -> Result<Vec<ModuleId>, OutOfMemory>
-    ensures { IfOk result (λ modules. modules.items ≡ map Filter (filter (holds_lists ms.now) order.now) ++ Miniport ∷ []) }
+    ensures { IfOk result (λ modules. modules.items ≡ map Filter (filter (is_hold_filter ms.now) order.now) ++ Miniport ∷ []) }
 {
     match order {
         [] => {
@@ -81,7 +81,7 @@ fn queues_in(alloc: Global, ms: &PlainModules, order: &[u64]) -> Result<Vec<Modu
         }
         [f, others @ ..] => {
             let mut modules = queues_in(alloc, ms, others)?;
-            if ms.holds_lists(*f) {
+            if ms.is_hold_filter(*f) {
                 modules.insert(0, ModuleId::Filter(*f))?;
             }
             Ok(modules)

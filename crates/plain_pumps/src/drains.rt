@@ -65,7 +65,7 @@ fn passed(
 fn passes_all(alloc: Global, net: &PlainNet, f: u64) -> Result<Vec<Row>, OutOfMemory>
     ensures { IfOk result (λ rows. rows.items ≡ passes_all net.now f) }
 {
-    if net.modules().holds_lists(f) {
+    if net.modules().is_hold_filter(f) {
         let ready = ready_lists(alloc, net, ModuleId::Filter(f))?;
         passed(alloc, net, f, ready.as_slice())
     } else {

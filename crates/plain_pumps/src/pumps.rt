@@ -2,7 +2,7 @@
 ghost use Rattle.std.specs.Prelude.{◌≡◌, IfOk, option_copied};
 ghost use Rattle.journal_types.specs.declared.Target.TheVariants.{Module, Bindings};
 ghost use Rattle.stack_rules.specs.declared.Stand.TheVariants as stand;
-ghost use Rattle.stack_rules.specs.Pumps.{moved_rows, thing_rows, request_pump, pump_of, pump_outcome, pump_moves};
+ghost use Rattle.stack_rules.specs.Pumps.{moved_rows, thing_rows, request_pump, pump_of, pump_outcome, is_pump_moving};
 
 use journal_types::{PassWay, Reply, Row, Target};
 use ndis_base::{ModuleId, OutOfMemory};
@@ -142,7 +142,7 @@ pub fn pump_outcome(alloc: Global, net: &PlainNet, keeps: bool) -> Result<PlainO
 
 /// Whether a pump would move something.
 pub fn pump_moves(alloc: Global, net: &PlainNet) -> Result<bool, OutOfMemory>
-    ensures { IfOk result (λ moves. moves ≡ pump_moves net.now) }
+    ensures { IfOk result (λ moves. moves ≡ is_pump_moving net.now) }
 {
     let giving = next_giving(alloc, net)?;
     Ok(agenda_first(net).is_some() || giving.is_some())

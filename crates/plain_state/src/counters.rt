@@ -1,6 +1,6 @@
 //! The numbers that come next. A number past the greatest counts as want of memory.
 ghost use Rattle.std.specs.Prelude.{◌≡◌, ◌+◌, OnOk, IfOk};
-ghost use Rattle.stack_rules.specs.Net.{past, filter_after};
+ghost use Rattle.stack_rules.specs.Net.{number_past, filter_after};
 
 use ndis_base::{ModuleId, ModuleState, OutOfMemory};
 use plain_parts::rows::next_number;
@@ -91,7 +91,7 @@ impl PlainCounters {
 
     /// Counts a status that is on its way, where its number is the next one.
     pub fn count_status(&mut self, number: u64) -> Result<(), OutOfMemory>
-        ensures { OnOk result (self.new ≡ record self.old { status = past self.old.status number }) }
+        ensures { OnOk result (self.new ≡ record self.old { status = number_past self.old.status number }) }
     {
         if number == self.status {
             self.status = next_number(self.status)?;

@@ -1,11 +1,10 @@
 //! The filters that are attached.
 ghost use Rattle.std.specs.Prelude.{◌≡◌, ◌==◌, not, IfOk, option_copied, filter, map};
-ghost use Rattle.stack_rules.specs.Net.{attached, with_state, is_detached, filters_after, has_oid_pair, below};
-ghost use Rattle.stack_rules.specs.Targets.{send_pair, receive_pair, status_handler};
+ghost use Rattle.stack_rules.specs.Net.{attached, with_state, is_detached, filters_after, handlers_of, below};
 ghost use Rattle.stack_rules.specs.Places.{pool_in, state_in};
 ghost use Rattle.stack_rules.specs.Cancels.{hold_in};
 
-use ndis_base::{ModuleState, OutOfMemory};
+use ndis_base::{Handlers, ModuleState, OutOfMemory};
 use plain_parts::same::is_hold;
 use stack_rules::Attached;
 use std::alloc::Global;
@@ -22,43 +21,18 @@ pub fn attached(f: u64, entries: &[Attached]) -> Option<&Attached>
     None
 }
 
-/// Whether a filter is attached and has the OID pair of handlers.
-pub fn has_oid_pair(a: Option<&Attached>) -> bool
-    ensures { result ≡ has_oid_pair (option_copied a.entry) }
+/// A filter's handlers; a filter that isn't attached has none.
+pub fn handlers_of(a: Option<&Attached>) -> Handlers
+    ensures { result ≡ handlers_of (option_copied a.entry) }
 {
     match a {
-        None => false,
-        Some(a) => a.setup.handlers.oid,
-    }
-}
-
-/// Whether a filter is attached and has the send pair of handlers.
-pub fn send_pair(a: Option<&Attached>) -> bool
-    ensures { result ≡ send_pair (option_copied a.entry) }
-{
-    match a {
-        None => false,
-        Some(a) => a.setup.handlers.send,
-    }
-}
-
-/// Whether a filter is attached and has the receive pair of handlers.
-pub fn receive_pair(a: Option<&Attached>) -> bool
-    ensures { result ≡ receive_pair (option_copied a.entry) }
-{
-    match a {
-        None => false,
-        Some(a) => a.setup.handlers.receive,
-    }
-}
-
-/// Whether a filter is attached and has the status handler.
-pub fn status_handler(a: Option<&Attached>) -> bool
-    ensures { result ≡ status_handler (option_copied a.entry) }
-{
-    match a {
-        None => false,
-        Some(a) => a.setup.handlers.status,
+        None => Handlers {
+            send: false,
+            receive: false,
+            oid: false,
+            status: false,
+        },
+        Some(a) => a.setup.handlers,
     }
 }
 

@@ -3,11 +3,9 @@ ghost use Rattle.std.specs.Prelude.{◌≡◌, ◌∷◌, ◌++◌, [], IfOk, On
 ghost use Rattle.ndis_base.specs.declared.ModuleState.TheVariants as state;
 ghost use Rattle.stack_rules.specs.Net.{attached, modules_after, has_oid, first_oid};
 ghost use Rattle.stack_rules.specs.Targets.{has_send, has_receive, has_status};
-ghost use Rattle.stack_rules.specs.Cancels.{holds_lists};
+ghost use Rattle.stack_rules.specs.Cancels.{is_hold_filter};
 
-use crate::filters::{
-    attached, filters_after, has_oid_pair, hold_in, receive_pair, send_pair, status_handler,
-};
+use crate::filters::{attached, filters_after, handlers_of, hold_in};
 use ndis_base::{ModuleId, ModuleState, OutOfMemory};
 use stack_rules::Attached;
 use std::alloc::Global;
@@ -98,33 +96,33 @@ impl PlainModules {
     pub fn has_oid(&self, f: u64) -> bool
         ensures { result ≡ has_oid self.now f }
     {
-        has_oid_pair(self.attached(f))
+        handlers_of(self.attached(f)).oid
     }
 
     /// Whether the filter has the send pair of handlers.
     pub fn has_send(&self, f: u64) -> bool
         ensures { result ≡ has_send self.now f }
     {
-        send_pair(self.attached(f))
+        handlers_of(self.attached(f)).send
     }
 
     /// Whether the filter has the receive pair of handlers.
     pub fn has_receive(&self, f: u64) -> bool
         ensures { result ≡ has_receive self.now f }
     {
-        receive_pair(self.attached(f))
+        handlers_of(self.attached(f)).receive
     }
 
     /// Whether the filter has the status handler.
     pub fn has_status(&self, f: u64) -> bool
         ensures { result ≡ has_status self.now f }
     {
-        status_handler(self.attached(f))
+        handlers_of(self.attached(f)).status
     }
 
     /// Whether the filter is a hold filter.
-    pub fn holds_lists(&self, f: u64) -> bool
-        ensures { result ≡ holds_lists self.now f }
+    pub fn is_hold_filter(&self, f: u64) -> bool
+        ensures { result ≡ is_hold_filter self.now f }
     {
         hold_in(self.attached(f))
     }

@@ -1,6 +1,6 @@
 //! What each row does to the lists, statuses and answers of a stack.
 ghost use Rattle.std.specs.Prelude.{◌≡◌, not, IfOk, Some, option_copied, filter};
-ghost use Rattle.stack_rules.specs.Net.{lists, list_of, is_list, without, with_list, changed, at_end, kept_by, passed_to, kept, passed, answers, without_status, is_status, answer_to, things_done, taken_by, had_by};
+ghost use Rattle.stack_rules.specs.Net.{lists, list_of, is_list, without, with_list, after_change, at_end, as_kept, as_passed, after_keep, after_pass, is_answer_to, without_status, is_status, after_answer, things_after_done, taken_by, had_by};
 
 use journal_types::{PassWay, Target};
 use ndis_base::{CrossNo, ListNo, ModuleId, OidNo, OidStatus, OidValue, OutOfMemory};
@@ -68,7 +68,7 @@ pub fn things_had_by(
     m: ModuleId,
     things: Vec<Thing>,
 ) -> Result<Vec<Thing>, OutOfMemory>
-    ensures { IfOk result (λ after. after.items ≡ changed n (had_by m) things.items) }
+    ensures { IfOk result (λ after. after.items ≡ after_change n (had_by m) things.items) }
 {
     let mut after = Vec::new(alloc);
     for t in things {
@@ -100,7 +100,7 @@ pub fn things_taken_by(
     message: u64,
     things: Vec<Thing>,
 ) -> Result<Vec<Thing>, OutOfMemory>
-    ensures { IfOk result (λ after. after.items ≡ changed n (taken_by message) things.items) }
+    ensures { IfOk result (λ after. after.items ≡ after_change n (taken_by message) things.items) }
 {
     let mut after = Vec::new(alloc);
     for t in things {
@@ -114,7 +114,7 @@ fn kept_by(
     m: ModuleId,
     l: Option<&LiveList>,
 ) -> Result<Option<LiveList>, OutOfMemory>
-    ensures { IfOk result (λ moved. moved ≡ kept_by m (option_copied l.entry)) }
+    ensures { IfOk result (λ moved. moved ≡ as_kept m (option_copied l.entry)) }
 {
     match l {
         None => Ok(None),
@@ -133,7 +133,7 @@ fn passed_to(
     to: Target,
     l: Option<&LiveList>,
 ) -> Result<Option<LiveList>, OutOfMemory>
-    ensures { IfOk result (λ moved. moved ≡ passed_to way to (option_copied l.entry)) }
+    ensures { IfOk result (λ moved. moved ≡ as_passed way to (option_copied l.entry)) }
 {
     match l {
         None => Ok(None),
@@ -164,7 +164,7 @@ pub fn kept(
     m: ModuleId,
     things: Vec<Thing>,
 ) -> Result<Vec<Thing>, OutOfMemory>
-    ensures { IfOk result (λ after. after.items ≡ kept n m things.items) }
+    ensures { IfOk result (λ after. after.items ≡ after_keep n m things.items) }
 {
     let moved = kept_by(alloc, m, list_of(n, things.as_slice()))?;
     at_end(without(alloc, n, things)?, moved)
@@ -178,7 +178,7 @@ pub fn passed(
     to: Target,
     things: Vec<Thing>,
 ) -> Result<Vec<Thing>, OutOfMemory>
-    ensures { IfOk result (λ after. after.items ≡ passed n way to things.items) }
+    ensures { IfOk result (λ after. after.items ≡ after_pass n way to things.items) }
 {
     let moved = passed_to(alloc, way, to, list_of(n, things.as_slice()))?;
     at_end(without(alloc, n, things)?, moved)
@@ -208,7 +208,7 @@ pub fn without_status(alloc: Global, n: u64, things: Vec<Thing>) -> Result<Vec<T
 }
 
 fn answers(parent: u64, t: &Thing) -> bool
-    ensures { result ≡ answers parent t.now }
+    ensures { result ≡ is_answer_to parent t.now }
 {
     match t {
         Thing::Answer(a) => a.parent.0 == parent,
@@ -222,7 +222,7 @@ fn without_answers(
     parent: u64,
     things: Vec<Thing>,
 ) -> Result<Vec<Thing>, OutOfMemory>
-    ensures { IfOk result (λ after. after.items ≡ filter (λ t. not (answers parent t)) things.items) }
+    ensures { IfOk result (λ after. after.items ≡ filter (λ t. not (is_answer_to parent t)) things.items) }
 {
     let mut after = Vec::new(alloc);
     for t in things {
@@ -240,7 +240,7 @@ fn answer_to(
     value: &OidValue,
     things: Vec<Thing>,
 ) -> Result<Vec<Thing>, OutOfMemory>
-    ensures { IfOk result (λ after. after.items ≡ answer_to parent request status value.now things.items) }
+    ensures { IfOk result (λ after. after.items ≡ after_answer parent request status value.now things.items) }
 {
     let mut after = things;
     match parent {
@@ -265,7 +265,7 @@ pub fn things_done(
     value: &OidValue,
     things: Vec<Thing>,
 ) -> Result<Vec<Thing>, OutOfMemory>
-    ensures { IfOk result (λ after. after.items ≡ things_done (Some r.now) request status value.now things.items) }
+    ensures { IfOk result (λ after. after.items ≡ things_after_done (Some r.now) request status value.now things.items) }
 {
     let others = without_answers(alloc, request.0, things)?;
     answer_to(r.parent, request, status, value, others)

@@ -41,13 +41,13 @@ pub struct WalkedStack {
 
 impl Model for WalkedStack {
     ghost use Rattle.plain_walk.specs.Walked.{Walked};
-    ghost use Rattle.plain_walk.specs.Stands.{Stands};
+    ghost use Rattle.plain_walk.specs.Stands.{IsWalked};
 
     ghost Value = { Walked };
 
     ghost view = { λ w. record { head = w.journal.head; turns = w.journal.turns } };
 
-    ghost invariant = { λ w. Stands w.journal.head w.journal.turns w.net };
+    ghost invariant = { λ w. IsWalked w.journal.head w.journal.turns w.net };
 }
 
 fn answer_of(alloc: Global, reply: &Reply) -> Result<Answer, OutOfMemory>

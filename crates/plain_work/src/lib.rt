@@ -4,7 +4,7 @@
 
 ghost use Rattle.std.specs.Prelude.{◌≡◌, ◌+◌, ◌*◌, ◌-◌, IfOk, count_by, sum_by, option_copied};
 ghost use Rattle.stack_rules.specs.Tests.{is_echo};
-ghost use Rattle.stack_rules.specs.Net.{kind_of_binding};
+ghost use Rattle.stack_rules.specs.Heads.{kind_of_binding};
 ghost use Rattle.stack_rules.specs.Places.{position, position_of_target};
 ghost use Rattle.stack_rules.specs.Work.{bottom, echo_count, up_work, kept_work, list_work, given_position, holder_position, thing_work, request_work, work};
 

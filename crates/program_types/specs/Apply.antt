@@ -12,9 +12,13 @@ use Rattle.program_types.specs.declared.Rule.{Rule}
 abbrev pub pair_at : List ℕ → ℕ → ℕ
 pair_at frame at = 256 * slice_index frame at + slice_index frame (at + 1)
 
+-- the tag protocol identifier of IEEE 802.1Q, 0x8100
+abbrev pub tag_protocol : ℕ
+tag_protocol = 33024
+
 -- the frame has a VLAN tag
 abbrev pub is_tagged : List ℕ → Bool
-is_tagged frame = nat_le 18 (length frame) && pair_at frame 12 == 33024
+is_tagged frame = nat_le 18 (length frame) && pair_at frame 12 == tag_protocol
 
 -- the VLAN in the tag
 abbrev pub vlan_of : List ℕ → ℕ
@@ -35,7 +39,7 @@ holds (test.Vlan n) frame = is_tagged frame && vlan_of frame == n
 holds (test.Longer n) frame = nat_lt n (length frame)
 holds (test.Byte at value) frame = nat_lt at (length frame) && slice_index frame at == value
 
--- the tag with this tag control information
+-- the tag with this tag control information: 0x8100, and the information
 abbrev pub tag : ℕ → List ℕ
 tag t = 129 ∷ 0 ∷ t / 256 ∷ t % 256 ∷ []
 

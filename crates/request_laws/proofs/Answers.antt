@@ -10,7 +10,7 @@ use Rattle.stack_rules.specs.declared.LiveList.{LiveList}
 use Rattle.stack_rules.specs.declared.Request.{Request}
 use Rattle.stack_rules.specs.declared.Thing.{Thing}
 use Rattle.stack_rules.specs.declared.Thing.TheVariants as thing
-use Rattle.stack_rules.specs.Net.{without, without_status, changed, at_end, kept, kept_by, passed, passed_to, lists, list_of, answers, answer_to, things_done}
+use Rattle.stack_rules.specs.Net.{without, without_status, after_change, at_end, after_keep, as_kept, after_pass, as_passed, lists, list_of, is_answer_to, after_answer, things_after_done}
 use Rattle.place_laws.specs.Kept.{EachAnswer}
 use Rattle.request_laws.proofs.Asked.{Each, answers_but, some_same, none_some}
 
@@ -55,11 +55,11 @@ answered-without_status n (thing.Status s ∷ ts) =
       | false ↦ answered-without_status n ts
     ]
 
-pub answered-changed : (n : ℕ) (f : LiveList → LiveList) (ts : List Thing) → answered (changed n f ts) ≡ answered ts
+pub answered-changed : (n : ℕ) (f : LiveList → LiveList) (ts : List Thing) → answered (after_change n f ts) ≡ answered ts
 answered-changed n f [] = refl
 answered-changed n f (thing.Answer a ∷ ts) = ap (λ xs. a ∷ xs) (answered-changed n f ts)
 answered-changed n f (thing.List l ∷ ts) =
-    elim (l.list.0 == n) as (λ b. answered (cond b (thing.List (f l)) (thing.List l) ∷ changed n f ts) ≡ answered ts) [
+    elim (l.list.0 == n) as (λ b. answered (cond b (thing.List (f l)) (thing.List l) ∷ after_change n f ts) ≡ answered ts) [
       | true ↦ answered-changed n f ts
       | false ↦ answered-changed n f ts
     ]
@@ -69,34 +69,34 @@ answered-at_end : (ts : List Thing) (o : Option LiveList) → answered (at_end t
 answered-at_end ts None = refl
 answered-at_end ts (Some l) = answered-push ts (thing.List l) refl
 
-pub answered-kept : (n : ℕ) (m : ModuleId) (ts : List Thing) → answered (kept n m ts) ≡ answered ts
-answered-kept n m ts = answered-at_end (without n ts) (kept_by m (list_of n (lists ts))) ∙ answered-without n ts
+pub answered-kept : (n : ℕ) (m : ModuleId) (ts : List Thing) → answered (after_keep n m ts) ≡ answered ts
+answered-kept n m ts = answered-at_end (without n ts) (as_kept m (list_of n (lists ts))) ∙ answered-without n ts
 
-pub answered-passed : (n : ℕ) (way : PassWay) (to : Target) (ts : List Thing) → answered (passed n way to ts) ≡ answered ts
-answered-passed n way to ts = answered-at_end (without n ts) (passed_to way to (list_of n (lists ts))) ∙ answered-without n ts
+pub answered-passed : (n : ℕ) (way : PassWay) (to : Target) (ts : List Thing) → answered (after_pass n way to ts) ≡ answered ts
+answered-passed n way to ts = answered-at_end (without n ts) (as_passed way to (list_of n (lists ts))) ∙ answered-without n ts
 
 -- a request that is done leaves an answer, where it has a parent
 abbrev pub answer_of : Option OidNo → OidNo → OidStatus → List ℕ → List Answered
 answer_of None request status value = []
 answer_of (Some parent) request status value = record { request = request; parent = parent; status = status; value = value } ∷ []
 
-answered-but : (n : ℕ) (ts : List Thing) → answered (filter (λ t. not (answers n t)) ts) ≡ answers_but n (answered ts)
+answered-but : (n : ℕ) (ts : List Thing) → answered (filter (λ t. not (is_answer_to n t)) ts) ≡ answers_but n (answered ts)
 answered-but n [] = refl
 answered-but n (thing.Answer a ∷ ts) =
-    elim (a.parent.0 == n) as (λ b. answered (cond (not b) (thing.Answer a ∷ filter (λ t. not (answers n t)) ts) (filter (λ t. not (answers n t)) ts)) ≡ cond (not b) (a ∷ answers_but n (answered ts)) (answers_but n (answered ts))) [
+    elim (a.parent.0 == n) as (λ b. answered (cond (not b) (thing.Answer a ∷ filter (λ t. not (is_answer_to n t)) ts) (filter (λ t. not (is_answer_to n t)) ts)) ≡ cond (not b) (a ∷ answers_but n (answered ts)) (answers_but n (answered ts))) [
       | true ↦ answered-but n ts
       | false ↦ ap (λ xs. a ∷ xs) (answered-but n ts)
     ]
 answered-but n (thing.List l ∷ ts) = answered-but n ts
 answered-but n (thing.Status s ∷ ts) = answered-but n ts
 
-answered-answer_to : (parent : Option OidNo) (request : OidNo) (status : OidStatus) (value : List ℕ) (ts : List Thing) → answered (answer_to parent request status value ts) ≡ answered ts ++ answer_of parent request status value
+answered-answer_to : (parent : Option OidNo) (request : OidNo) (status : OidStatus) (value : List ℕ) (ts : List Thing) → answered (after_answer parent request status value ts) ≡ answered ts ++ answer_of parent request status value
 answered-answer_to None request status value ts = sym (nil_end (answered ts))
 answered-answer_to (Some parent) request status value ts = answered-append ts (thing.Answer (record { request = request; parent = parent; status = status; value = value }) ∷ [])
 
-pub answered-done : (r : Request) (request : OidNo) (status : OidStatus) (value : List ℕ) (ts : List Thing) → answered (things_done (Some r) request status value ts) ≡ answers_but request.0 (answered ts) ++ answer_of r.parent request status value
+pub answered-done : (r : Request) (request : OidNo) (status : OidStatus) (value : List ℕ) (ts : List Thing) → answered (things_after_done (Some r) request status value ts) ≡ answers_but request.0 (answered ts) ++ answer_of r.parent request status value
 answered-done r request status value ts =
-    answered-answer_to r.parent request status value (filter (λ t. not (answers request.0 t)) ts)
+    answered-answer_to r.parent request status value (filter (λ t. not (is_answer_to request.0 t)) ts)
     ∙ ap (λ xs. xs ++ answer_of r.parent request status value) (answered-but request.0 ts)
 
 -- what holds of each answer, by the things

@@ -23,7 +23,7 @@ use Rattle.stack_rules.specs.Net.{Net, start, told, after_rows, after_turn, afte
 use Rattle.stack_rules.specs.Outcome.{Outcome, oid_no}
 use Rattle.stack_rules.specs.Places.{agenda_first, is_away, state_of}
 use Rattle.stack_rules.specs.Requests.{Giving, next_giving, ask_outcome}
-use Rattle.stack_rules.specs.Pumps.{moved_rows, request_pump, pump_of, pump_outcome, pump_moves}
+use Rattle.stack_rules.specs.Pumps.{moved_rows, request_pump, pump_of, pump_outcome, is_pump_moving}
 use Rattle.stack_rules.specs.Statuses.{status_rows}
 use Rattle.stack_rules.specs.Drains.{drain_rows, drained, drain_outcome}
 use Rattle.stack_rules.specs.Sound.{outcome, SoundFrom, Sound}
@@ -111,7 +111,7 @@ kept_pump net s keeps k = kept_pump_of net s keeps (agenda_first net) k refl
 
 kept_drain : (net : Net) (s : IsShaped net) (keeps : Bool) → IsKept net → IsKept (after_rows net (drain_outcome net keeps).rows)
 kept_drain net s keeps k =
-    by_test (λ (o : Outcome). IsKept (after_rows net o.rows)) (pump_moves net) _ _ (λ _. kept_pump net s keeps k)
+    by_test (λ (o : Outcome). IsKept (after_rows net o.rows)) (is_pump_moving net) _ _ (λ _. kept_pump net s keeps k)
     (λ _. kept_still net (drained (drain_rows net)).rows k (still_all (drained (drain_rows net)).rows (calm_drained net)))
 
 pub event_asks : (net : Net) (s : IsShaped net) (e : Event) (c : Choice) → IsKept net → IsKept (state_after net e (outcome net e c))

@@ -5,7 +5,7 @@ use Rattle.ndis_base.specs.declared.ModuleId.{ModuleId}
 use Rattle.stack_rules.specs.declared.Request.{Request}
 use Rattle.stack_rules.specs.declared.RequestAt.TheVariants as at
 use Rattle.stack_rules.specs.Net.{request_of, given_to}
-use Rattle.place_laws.specs.Kept.{EachRequest, EachApart}
+use Rattle.rule_basics.specs.Live.{EachRequest, EachApart}
 use Rattle.request_laws.proofs.Asked.{some_same, none_some, is_equal, is_apart, apart}
 
 pub EachRequest-implies : (P Q : Request → Type 0) → ((r : Request) → P r → Q r) → (rs : List Request) → EachRequest P rs → EachRequest Q rs

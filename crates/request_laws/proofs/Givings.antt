@@ -8,7 +8,7 @@ use Rattle.stack_rules.specs.declared.Request.{Request}
 use Rattle.stack_rules.specs.declared.RequestAt.{RequestAt}
 use Rattle.stack_rules.specs.declared.RequestAt.TheVariants as at
 use Rattle.stack_rules.specs.Net.{Net, after, after_rows, request_of, given_to, first_oid, below, place_of_clone, place_of_request}
-use Rattle.stack_rules.specs.Requests.{Giving, waits_at, is_at_entry, is_busy, has_waiting, first_waiting, oid_modules, giving_to, lowest_giving, entry_giving, or_else, next_giving, given_rows_by, giving_rows}
+use Rattle.stack_rules.specs.Requests.{Giving, is_waiting_at, is_at_entry, is_busy, has_waiting, first_waiting, oid_modules, giving_to, lowest_giving, entry_giving, or_else, next_giving, given_rows_by, giving_rows}
 use Rattle.stack_rules.specs.OidTable.{report_of}
 use Rattle.stack_rules.specs.Outcome.{oid_no}
 use Rattle.state_laws.specs.Shape.{IsDistinct}
@@ -35,7 +35,7 @@ find_true p (q ∷ rs) r f =
     ] in
     cases (p q) refl f
 
-waiting_is : (m : ModuleId) (a : RequestAt) → waits_at m a ≡ true → a ≡ at.Waiting m
+waiting_is : (m : ModuleId) (a : RequestAt) → is_waiting_at m a ≡ true → a ≡ at.Waiting m
 waiting_is m at.Entry e = cc
 waiting_is m (at.Waiting k) e = ap (λ i. at.Waiting i) (same_is k m e)
 waiting_is m (at.Given k) e = cc
@@ -54,7 +54,7 @@ lowest_gives : (net : Net) (ms : List ModuleId) (g : Giving) → AllTake net.mod
 lowest_gives net [] g a e = absurd (none_some g e)
 lowest_gives net (m ∷ ms) g a e =
     let cases : (b : Bool) → cond b (giving_to m (first_waiting net.requests m)) (lowest_giving net.requests ms) ≡ Some g → GivesNext net g = elim [
-      | true ↦ λ f. giving_found net m (λ r. waits_at m r.at) (first_waiting net.requests m) g refl (λ r t. inr (waiting_is m r.at t)) a.0 f
+      | true ↦ λ f. giving_found net m (λ r. is_waiting_at m r.at) (first_waiting net.requests m) g refl (λ r t. inr (waiting_is m r.at t)) a.0 f
       | false ↦ λ f. lowest_gives net ms g a.1 f
     ] in
     cases (has_waiting net.requests m && not (is_busy net.requests m)) e

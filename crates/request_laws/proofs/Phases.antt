@@ -27,7 +27,7 @@ use Rattle.stack_rules.specs.Rewires.{is_in, is_bad_position, attach_rows, swapp
 use Rattle.rule_basics.proofs.Counts.{count_by-cons}
 use Rattle.state_laws.proofs.Rows.{by_test, after_rows-append}
 use Rattle.state_laws.proofs.Events.{state_after, when_halted}
-use Rattle.place_laws.specs.Kept.{EachRequest}
+use Rattle.rule_basics.specs.Live.{EachRequest}
 use Rattle.request_laws.proofs.Changes.{AllAtEntry}
 use Rattle.request_laws.proofs.Finds.{EachRequest-find}
 use Rattle.request_laws.proofs.Rows.{found_in, IsKept, AsksSame, asks-then, kept_same, AreStill, still-append, still_rows, kept_config, kept_halt}

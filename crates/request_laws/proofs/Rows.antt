@@ -18,12 +18,12 @@ use Rattle.stack_rules.specs.declared.RequestAt.TheVariants as at
 use Rattle.stack_rules.specs.declared.Thing.{Thing}
 use Rattle.stack_rules.specs.declared.Thing.TheVariants as thing
 use Rattle.stack_rules.specs.Tests.{phase_is_halted}
-use Rattle.stack_rules.specs.Net.{Net, Modules, start, after, after_rows, request_of, place_of_request, things_done, had_by, taken_by, without_status}
+use Rattle.stack_rules.specs.Net.{Net, Modules, start, after, after_rows, request_of, place_of_request, things_after_done, had_by, taken_by, without_status}
 use Rattle.request_laws.proofs.Asked.{AreKept, HasNoClone, none_some}
 use Rattle.request_laws.proofs.Changes.{keeps_given, MayStart, keeps_issued, AreFrom, keeps_done, AllAtEntry, keeps_reordered}
 use Rattle.request_laws.proofs.Finds.{found_push, apart_push, found_given, apart_given, found_but, apart_but}
 use Rattle.request_laws.proofs.Answers.{answered, answered-push, answered-without, answered-without_status, answered-changed, answered-kept, answered-passed, answer_of, answered-done}
-use Rattle.place_laws.specs.Kept.{EachApart}
+use Rattle.rule_basics.specs.Live.{EachApart}
 
 -- the request of a number
 abbrev pub found_in : Net → ℕ → Option Request
@@ -154,7 +154,7 @@ kept_give net request m r k f w = record {
 pub kept_done : (net : Net) (request : OidNo) (status : OidStatus) (value : List ℕ) (r : Request) → IsKept net → found_in net request.0 ≡ Some r → HasNoClone (found_in net) request.0 → IsKept (after net (row.OidDone request status value))
 kept_done net request status value r k f childless =
     let next : Net = after net (row.OidDone request status value) in
-    let things : answered next.things ≡ answered (things_done (Some r) request status value net.things) = ap (λ o. answered (things_done o request status value net.things)) f in
+    let things : answered next.things ≡ answered (things_after_done (Some r) request status value net.things) = ap (λ o. answered (things_after_done o request status value net.things)) f in
     record {
       asked = subst (λ xs. AreKept net.modules.order (found_in next) xs net.next.request) (sym (things ∙ answered-done r request status value net.things))
           (keeps_done net.modules.order (found_in net) (answered net.things) net.next.request k.asked request.0 r f childless (found_in next) (found_but request.0 net.requests) (answer_of r.parent request status value) (from r.parent));

@@ -4,7 +4,8 @@ use Rattle.journal_types.specs.declared.Turn.{Turn}
 use Rattle.std.specs.Prelude.{List}
 use Rattle.stack_rules.specs.Net.{Net, seen}
 use Rattle.stack_rules.specs.Sound.{Sound}
-use Rattle.place_laws.specs.Kept.{IsGiven, IsAsked, EachAnswer, EachRequest, EachApart}
+use Rattle.place_laws.specs.Kept.{IsGiven, IsAsked, EachAnswer}
+use Rattle.rule_basics.specs.Live.{EachRequest, EachApart}
 
 -- Each request has a number of its own; a clone waits below its parent, and an answer goes to a filter that has
 -- the parent.

@@ -6,7 +6,7 @@ use Rattle.journal_types.specs.declared.PassWay.{PassWay}
 use Rattle.journal_types.specs.declared.Target.{Target}
 use Rattle.stack_rules.specs.declared.LiveList.{LiveList}
 use Rattle.stack_rules.specs.declared.Stand.TheVariants as stand
-use Rattle.stack_rules.specs.Net.{list_of, kept_by, passed_to}
+use Rattle.stack_rules.specs.Net.{list_of, as_kept, as_passed}
 use Rattle.rule_basics.specs.Live.{is_live, IsApart, others, retouched, with_last, KeepsNumber}
 use Rattle.rule_basics.proofs.Lives.{is_live-append, is_live-others, is_live-retouched, number-touched, find_is}
 
@@ -50,8 +50,8 @@ apart_at_end n ls None change c to h a = rw c (IsApart-others n ls a)
 apart_at_end n ls (Some l) change c to h a =
     rw (to l).1 (IsApart-append (others n ls) (to l).0 (IsApart-others n ls a) (rw (to l).2 (taken_absent n ls l h)))
 
-pub IsApart-kept : (n : ℕ) (m : ModuleId) (ls : List LiveList) → IsApart ls → IsApart (with_last (others n ls) (kept_by m (list_of n ls)))
-IsApart-kept n m ls a = apart_at_end n ls (list_of n ls) (kept_by m) refl (λ l. (record l { last = m; stand = stand.Kept m }, refl, refl)) refl a
+pub IsApart-kept : (n : ℕ) (m : ModuleId) (ls : List LiveList) → IsApart ls → IsApart (with_last (others n ls) (as_kept m (list_of n ls)))
+IsApart-kept n m ls a = apart_at_end n ls (list_of n ls) (as_kept m) refl (λ l. (record l { last = m; stand = stand.Kept m }, refl, refl)) refl a
 
-pub IsApart-passed : (n : ℕ) (way : PassWay) (to : Target) (ls : List LiveList) → IsApart ls → IsApart (with_last (others n ls) (passed_to way to (list_of n ls)))
-IsApart-passed n way to ls a = apart_at_end n ls (list_of n ls) (passed_to way to) refl (λ l. (record l { stand = stand.Passed way to; crossed = None }, refl, refl)) refl a
+pub IsApart-passed : (n : ℕ) (way : PassWay) (to : Target) (ls : List LiveList) → IsApart ls → IsApart (with_last (others n ls) (as_passed way to (list_of n ls)))
+IsApart-passed n way to ls a = apart_at_end n ls (list_of n ls) (as_passed way to) refl (λ l. (record l { stand = stand.Passed way to; crossed = None }, refl, refl)) refl a

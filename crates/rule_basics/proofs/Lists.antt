@@ -6,7 +6,7 @@ use Rattle.journal_types.specs.declared.Target.{Target}
 use Rattle.stack_rules.specs.declared.LiveList.{LiveList}
 use Rattle.stack_rules.specs.declared.Thing.{Thing}
 use Rattle.stack_rules.specs.declared.Thing.TheVariants as thing
-use Rattle.stack_rules.specs.Net.{lists, list_of, without, changed, at_end, kept, kept_by, passed, passed_to}
+use Rattle.stack_rules.specs.Net.{lists, list_of, without, after_change, at_end, after_keep, as_kept, after_pass, as_passed}
 use Rattle.rule_basics.specs.Live.{others, retouched, with_last, things_of}
 
 pub lists-append : (ts us : List Thing) → lists (ts ++ us) ≡ lists ts ++ lists us
@@ -25,10 +25,10 @@ lists-without n (thing.List l ∷ ts) =
 lists-without n (thing.Status s ∷ ts) = lists-without n ts
 lists-without n (thing.Answer a ∷ ts) = lists-without n ts
 
-pub lists-changed : (n : ℕ) (f : LiveList → LiveList) (ts : List Thing) → lists (changed n f ts) ≡ retouched n f (lists ts)
+pub lists-changed : (n : ℕ) (f : LiveList → LiveList) (ts : List Thing) → lists (after_change n f ts) ≡ retouched n f (lists ts)
 lists-changed n f [] = refl
 lists-changed n f (thing.List l ∷ ts) =
-    elim (l.list.0 == n) as (λ b. lists (cond b (thing.List (f l)) (thing.List l) ∷ changed n f ts) ≡ cond b (f l) l ∷ retouched n f (lists ts)) [
+    elim (l.list.0 == n) as (λ b. lists (cond b (thing.List (f l)) (thing.List l) ∷ after_change n f ts) ≡ cond b (f l) l ∷ retouched n f (lists ts)) [
       | true ↦ ap (λ ls. f l ∷ ls) (lists-changed n f ts)
       | false ↦ ap (λ ls. l ∷ ls) (lists-changed n f ts)
     ]
@@ -39,15 +39,15 @@ pub lists-at_end : (ts : List Thing) (o : Option LiveList) → lists (at_end ts 
 lists-at_end ts None = refl
 lists-at_end ts (Some l) = lists-append ts (thing.List l ∷ [])
 
-pub lists-kept : (n : ℕ) (m : ModuleId) (ts : List Thing) → lists (kept n m ts) ≡ with_last (others n (lists ts)) (kept_by m (list_of n (lists ts)))
+pub lists-kept : (n : ℕ) (m : ModuleId) (ts : List Thing) → lists (after_keep n m ts) ≡ with_last (others n (lists ts)) (as_kept m (list_of n (lists ts)))
 lists-kept n m ts =
-    lists-at_end (without n ts) (kept_by m (list_of n (lists ts)))
-    ∙ ap (λ ls. with_last ls (kept_by m (list_of n (lists ts)))) (lists-without n ts)
+    lists-at_end (without n ts) (as_kept m (list_of n (lists ts)))
+    ∙ ap (λ ls. with_last ls (as_kept m (list_of n (lists ts)))) (lists-without n ts)
 
-pub lists-passed : (n : ℕ) (way : PassWay) (to : Target) (ts : List Thing) → lists (passed n way to ts) ≡ with_last (others n (lists ts)) (passed_to way to (list_of n (lists ts)))
+pub lists-passed : (n : ℕ) (way : PassWay) (to : Target) (ts : List Thing) → lists (after_pass n way to ts) ≡ with_last (others n (lists ts)) (as_passed way to (list_of n (lists ts)))
 lists-passed n way to ts =
-    lists-at_end (without n ts) (passed_to way to (list_of n (lists ts)))
-    ∙ ap (λ ls. with_last ls (passed_to way to (list_of n (lists ts)))) (lists-without n ts)
+    lists-at_end (without n ts) (as_passed way to (list_of n (lists ts)))
+    ∙ ap (λ ls. with_last ls (as_passed way to (list_of n (lists ts)))) (lists-without n ts)
 
 -- lists as things, and back
 pub lists-things_of : (ls : List LiveList) → lists (things_of ls) ≡ ls
@@ -62,10 +62,10 @@ things_of-others n (l ∷ ls) =
       | false ↦ ap (λ ts. thing.List l ∷ ts) (things_of-others n ls)
     ]
 
-pub things_of-retouched : (n : ℕ) (f : LiveList → LiveList) (ls : List LiveList) → things_of (retouched n f ls) ≡ changed n f (things_of ls)
+pub things_of-retouched : (n : ℕ) (f : LiveList → LiveList) (ls : List LiveList) → things_of (retouched n f ls) ≡ after_change n f (things_of ls)
 things_of-retouched n f [] = refl
 things_of-retouched n f (l ∷ ls) =
-    elim (l.list.0 == n) as (λ b. thing.List (cond b (f l) l) ∷ things_of (retouched n f ls) ≡ cond b (thing.List (f l)) (thing.List l) ∷ changed n f (things_of ls)) [
+    elim (l.list.0 == n) as (λ b. thing.List (cond b (f l) l) ∷ things_of (retouched n f ls) ≡ cond b (thing.List (f l)) (thing.List l) ∷ after_change n f (things_of ls)) [
       | true ↦ ap (λ ts. thing.List (f l) ∷ ts) (things_of-retouched n f ls)
       | false ↦ ap (λ ts. thing.List l ∷ ts) (things_of-retouched n f ls)
     ]
@@ -79,12 +79,12 @@ things_of-with_last n ls None = things_of-others n ls
 things_of-with_last n ls (Some l) =
     things_of-append (others n ls) (l ∷ []) ∙ ap (λ ts. ts ++ thing.List l ∷ []) (things_of-others n ls)
 
-pub things_of-kept : (n : ℕ) (m : ModuleId) (ls : List LiveList) → things_of (with_last (others n ls) (kept_by m (list_of n ls))) ≡ kept n m (things_of ls)
+pub things_of-kept : (n : ℕ) (m : ModuleId) (ls : List LiveList) → things_of (with_last (others n ls) (as_kept m (list_of n ls))) ≡ after_keep n m (things_of ls)
 things_of-kept n m ls =
-    things_of-with_last n ls (kept_by m (list_of n ls))
-    ∙ ap (λ found. at_end (without n (things_of ls)) (kept_by m (list_of n found))) (sym (lists-things_of ls))
+    things_of-with_last n ls (as_kept m (list_of n ls))
+    ∙ ap (λ found. at_end (without n (things_of ls)) (as_kept m (list_of n found))) (sym (lists-things_of ls))
 
-pub things_of-passed : (n : ℕ) (way : PassWay) (to : Target) (ls : List LiveList) → things_of (with_last (others n ls) (passed_to way to (list_of n ls))) ≡ passed n way to (things_of ls)
+pub things_of-passed : (n : ℕ) (way : PassWay) (to : Target) (ls : List LiveList) → things_of (with_last (others n ls) (as_passed way to (list_of n ls))) ≡ after_pass n way to (things_of ls)
 things_of-passed n way to ls =
-    things_of-with_last n ls (passed_to way to (list_of n ls))
-    ∙ ap (λ found. at_end (without n (things_of ls)) (passed_to way to (list_of n found))) (sym (lists-things_of ls))
+    things_of-with_last n ls (as_passed way to (list_of n ls))
+    ∙ ap (λ found. at_end (without n (things_of ls)) (as_passed way to (list_of n found))) (sym (lists-things_of ls))

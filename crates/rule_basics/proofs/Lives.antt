@@ -6,7 +6,7 @@ use Rattle.journal_types.specs.declared.PassWay.{PassWay}
 use Rattle.journal_types.specs.declared.Target.{Target}
 use Rattle.stack_rules.specs.declared.LiveList.{LiveList}
 use Rattle.stack_rules.specs.declared.Stand.TheVariants as stand
-use Rattle.stack_rules.specs.Net.{list_of, kept_by, passed_to}
+use Rattle.stack_rules.specs.Net.{list_of, as_kept, as_passed}
 use Rattle.rule_basics.specs.Live.{is_live, others, touched, retouched, with_last, KeepsNumber}
 
 pub is_live-append : (n : ℕ) (ls : List LiveList) (l : LiveList) → is_live n (ls ++ l ∷ []) ≡ (is_live n ls || (l.list.0 == n))
@@ -40,8 +40,8 @@ live_at_end n m ls (Some l) change c to h =
     rw (to l).1 (rw (is_live-append n (others m ls) (to l).0) (rw (is_live-others n m ls) (grind (arith, nat_tests, find_is m ls l h, (to l).2))))
 
 -- moving a list to the end changes no number
-pub is_live-kept : (n m : ℕ) (by : ModuleId) (ls : List LiveList) → is_live n (with_last (others m ls) (kept_by by (list_of m ls))) ≡ is_live n ls
-is_live-kept n m by ls = live_at_end n m ls (list_of m ls) (kept_by by) refl (λ l. (record l { last = by; stand = stand.Kept by }, refl, refl)) refl
+pub is_live-kept : (n m : ℕ) (by : ModuleId) (ls : List LiveList) → is_live n (with_last (others m ls) (as_kept by (list_of m ls))) ≡ is_live n ls
+is_live-kept n m by ls = live_at_end n m ls (list_of m ls) (as_kept by) refl (λ l. (record l { last = by; stand = stand.Kept by }, refl, refl)) refl
 
-pub is_live-passed : (n m : ℕ) (way : PassWay) (to : Target) (ls : List LiveList) → is_live n (with_last (others m ls) (passed_to way to (list_of m ls))) ≡ is_live n ls
-is_live-passed n m way to ls = live_at_end n m ls (list_of m ls) (passed_to way to) refl (λ l. (record l { stand = stand.Passed way to; crossed = None }, refl, refl)) refl
+pub is_live-passed : (n m : ℕ) (way : PassWay) (to : Target) (ls : List LiveList) → is_live n (with_last (others m ls) (as_passed way to (list_of m ls))) ≡ is_live n ls
+is_live-passed n m way to ls = live_at_end n m ls (list_of m ls) (as_passed way to) refl (λ l. (record l { stand = stand.Passed way to; crossed = None }, refl, refl)) refl

@@ -14,7 +14,7 @@ use Rattle.stack_rules.specs.declared.Request.{Request}
 use Rattle.stack_rules.specs.declared.Thing.{Thing}
 use Rattle.stack_rules.specs.declared.Thing.TheVariants as thing
 use Rattle.stack_rules.specs.declared.Stand.TheVariants as stand
-use Rattle.stack_rules.specs.Net.{Net, start, after, after_rows, lists, list_of, without_status, answers, answer_to, things_done, request_of, taken_by, had_by, kept_by, passed_to}
+use Rattle.stack_rules.specs.Net.{Net, start, after, after_rows, lists, list_of, without_status, is_answer_to, after_answer, things_after_done, request_of, taken_by, had_by, as_kept, as_passed}
 use Rattle.rule_basics.specs.Live.{is_live, IsApart, IsBelow, others, retouched, with_last, KeepsNumber}
 use Rattle.rule_basics.specs.Numbers.{IsNumbered, IssuesNext, IssueNext}
 use Rattle.rule_basics.proofs.Lists.{lists-append, lists-without, lists-changed, lists-kept, lists-passed}
@@ -48,25 +48,25 @@ pub lists-status : (n : ℕ) (ts : List Thing) (t : Thing) → lists (t ∷ []) 
 lists-status n ts t e =
     lists-append (without_status n ts) (t ∷ []) ∙ ap (λ rest. lists (without_status n ts) ++ rest) e ∙ nil_end (lists (without_status n ts)) ∙ lists-without_status n ts
 
-lists-unanswered : (n : ℕ) (ts : List Thing) → lists (filter (λ t. not (answers n t)) ts) ≡ lists ts
+lists-unanswered : (n : ℕ) (ts : List Thing) → lists (filter (λ t. not (is_answer_to n t)) ts) ≡ lists ts
 lists-unanswered n [] = refl
 lists-unanswered n (thing.List l ∷ ts) = ap (λ ls. l ∷ ls) (lists-unanswered n ts)
 lists-unanswered n (thing.Status s ∷ ts) = lists-unanswered n ts
 lists-unanswered n (thing.Answer a ∷ ts) =
-    elim (a.parent.0 == n) as (λ b. lists (cond (not b) (thing.Answer a ∷ filter (λ t. not (answers n t)) ts) (filter (λ t. not (answers n t)) ts)) ≡ lists ts) [
+    elim (a.parent.0 == n) as (λ b. lists (cond (not b) (thing.Answer a ∷ filter (λ t. not (is_answer_to n t)) ts) (filter (λ t. not (is_answer_to n t)) ts)) ≡ lists ts) [
       | true ↦ lists-unanswered n ts
       | false ↦ lists-unanswered n ts
     ]
 
-lists-answer_to : (parent : Option OidNo) (request : OidNo) (status : OidStatus) (value : List ℕ) (ts : List Thing) → lists (answer_to parent request status value ts) ≡ lists ts
+lists-answer_to : (parent : Option OidNo) (request : OidNo) (status : OidStatus) (value : List ℕ) (ts : List Thing) → lists (after_answer parent request status value ts) ≡ lists ts
 lists-answer_to None request status value ts = refl
 lists-answer_to (Some parent) request status value ts =
     lists-append ts (thing.Answer (record { request = request; parent = parent; status = status; value = value }) ∷ []) ∙ nil_end (lists ts)
 
-pub lists-things_done : (o : Option Request) (request : OidNo) (status : OidStatus) (value : List ℕ) (ts : List Thing) → lists (things_done o request status value ts) ≡ lists ts
+pub lists-things_done : (o : Option Request) (request : OidNo) (status : OidStatus) (value : List ℕ) (ts : List Thing) → lists (things_after_done o request status value ts) ≡ lists ts
 lists-things_done None request status value ts = refl
 lists-things_done (Some r) request status value ts =
-    lists-answer_to r.parent request status value (filter (λ t. not (answers request.0 t)) ts) ∙ lists-unanswered request.0 ts
+    lists-answer_to r.parent request status value (filter (λ t. not (is_answer_to request.0 t)) ts) ∙ lists-unanswered request.0 ts
 
 -- the two facts, of any list of live lists
 abbrev pub Numbered : ℕ → List LiveList → Type 0
@@ -113,9 +113,9 @@ numbered_after net (row.Give list m handler) e h =
 numbered_after net (row.TurnBack list m status) e h =
     is_numbered (after net (row.TurnBack list m status)) (numbered_by net.next.list _ _ (lists-changed list.0 (had_by m) net.things) (below_retouched net.next.list list.0 (had_by m) (λ l. refl) (lists net.things) (numbered net h)))
 numbered_after net (row.Pass list way to) e h =
-    is_numbered (after net (row.Pass list way to)) (numbered_by net.next.list _ _ (lists-passed list.0 way to net.things) (IsApart-passed list.0 way to (lists net.things) h.apart, below_moved net.next.list list.0 (lists net.things) (list_of list.0 (lists net.things)) (passed_to way to) refl (λ l. (record l { stand = stand.Passed way to; crossed = None }, refl, refl)) refl h.below))
+    is_numbered (after net (row.Pass list way to)) (numbered_by net.next.list _ _ (lists-passed list.0 way to net.things) (IsApart-passed list.0 way to (lists net.things) h.apart, below_moved net.next.list list.0 (lists net.things) (list_of list.0 (lists net.things)) (as_passed way to) refl (λ l. (record l { stand = stand.Passed way to; crossed = None }, refl, refl)) refl h.below))
 numbered_after net (row.Keep list m) e h =
-    is_numbered (after net (row.Keep list m)) (numbered_by net.next.list _ _ (lists-kept list.0 m net.things) (IsApart-kept list.0 m (lists net.things) h.apart, below_moved net.next.list list.0 (lists net.things) (list_of list.0 (lists net.things)) (kept_by m) refl (λ l. (record l { last = m; stand = stand.Kept m }, refl, refl)) refl h.below))
+    is_numbered (after net (row.Keep list m)) (numbered_by net.next.list _ _ (lists-kept list.0 m net.things) (IsApart-kept list.0 m (lists net.things) h.apart, below_moved net.next.list list.0 (lists net.things) (list_of list.0 (lists net.things)) (as_kept m) refl (λ l. (record l { last = m; stand = stand.Kept m }, refl, refl)) refl h.below))
 numbered_after net (row.Home list owner status) e h =
     is_numbered (after net (row.Home list owner status)) (numbered_by net.next.list _ _ (lists-without list.0 net.things) (IsApart-others list.0 (lists net.things) h.apart, Each-others (λ l. l.list.0 < net.next.list) list.0 (lists net.things) h.below))
 numbered_after net (row.Wire list frames) e h = record { apart = h.apart; below = h.below }

@@ -12,13 +12,14 @@ use Rattle.ndis_base.specs.declared.Phase.TheVariants as phase
 use Rattle.journal_types.specs.declared.Target.{Target}
 use Rattle.journal_types.specs.declared.Target.TheVariants.{Module, Bindings}
 use Rattle.stack_rules.specs.declared.Request.{Request}
-use Rattle.stack_rules.specs.Net.{Net, Modules, messages_in}
+use Rattle.stack_rules.specs.Messages.{messages_in_phase}
+use Rattle.stack_rules.specs.Net.{Net, Modules}
 use Rattle.stack_rules.specs.Places.{agenda_first, position}
 use Rattle.stack_rules.specs.Targets.{has_send, has_receive, first_filter, next_down, next_up, next_done, next_back, filters_above, filters_between}
 use Rattle.stack_rules.specs.Tests.{is_paused, is_running}
 use Rattle.stack_rules.specs.Pauses.{floors, one, count_front, binding_ids, all_are, first_unpaused, running_floors}
 use Rattle.stack_rules.specs.Requests.{Giving, lowest_giving, entry_giving, next_giving, or_else, oid_modules, giving_to, is_at_entry}
-use Rattle.stack_rules.specs.Pumps.{pump_moves}
+use Rattle.stack_rules.specs.Pumps.{is_pump_moving}
 use Rattle.rule_basics.specs.Live.{front_of_two}
 
 drop-nil : (n : ℕ) → drop {A = ℕ} n [] ≡ []
@@ -51,12 +52,12 @@ next_down-plain ms i e = first_filter-none (has_send ms) (drop i ms.order) (Modu
 
 pub next_up-plain : (ms : Modules) (i : ℕ) → ms.order ≡ [] → next_up ms i ≡ Bindings
 next_up-plain ms i e =
-    first_filter-none (has_receive ms) (filters_above ms i) Bindings (reverse-none (take (i - 1) ms.order) (take-none (i - 1) ms.order e))
+    first_filter-none (has_receive ms) (reverse (filters_above ms i)) Bindings (reverse-none (take (i - 1) ms.order) (take-none (i - 1) ms.order e))
 
 pub next_done-plain : (ms : Modules) (i : ℕ) (owner : ModuleId) → ms.order ≡ [] → next_done ms i owner ≡ Module owner
 next_done-plain ms i owner e =
     let top = position ms.order owner in
-    first_filter-none (has_send ms) (filters_between ms top i) (Module owner) (reverse-none (drop top (take (i - 1) ms.order)) (drop-none top (take (i - 1) ms.order) (take-none (i - 1) ms.order e)))
+    first_filter-none (has_send ms) (reverse (filters_between ms top i)) (Module owner) (reverse-none (drop top (take (i - 1) ms.order)) (drop-none top (take (i - 1) ms.order) (take-none (i - 1) ms.order e)))
 
 pub next_back-plain : (ms : Modules) (i : ℕ) (owner : ModuleId) → ms.order ≡ [] → next_back ms i owner ≡ Module owner
 next_back-plain ms i owner e =
@@ -136,10 +137,10 @@ or_false true g e = refl
 or_false false None e = refl
 or_false false (Some g) e = cc
 
-pub pump_moves-lists : (net : Net) → net.requests ≡ [] → pump_moves net ≡ is_some (agenda_first net)
+pub pump_moves-lists : (net : Net) → net.requests ≡ [] → is_pump_moving net ≡ is_some (agenda_first net)
 pump_moves-lists net e = or_false (is_some (agenda_first net)) (next_giving net) (next_giving-none net e)
 
 -- messages are given up at halt, and none are then none
-pub messages_in-none : (p : Phase) → messages_in p [] ≡ []
+pub messages_in-none : (p : Phase) → messages_in_phase p [] ≡ []
 messages_in-none phase.Halted = refl
 messages_in-none _ = refl

@@ -1,6 +1,7 @@
--- The live lists by their numbers.
+-- The live lists, and the requests, by their numbers.
 use Rattle.std.specs.Prelude.{ℕ, ◌≡◌, ◌<◌, ◌==◌, ◌||◌, not, Bool, false, List, [], ◌∷◌, ◌++◌, Option, Some, None, filter, map, if◌then◌else◌}
 use Rattle.stack_rules.specs.declared.LiveList.{LiveList}
+use Rattle.stack_rules.specs.declared.Request.{Request}
 use Rattle.stack_rules.specs.declared.Thing.{Thing}
 use Rattle.stack_rules.specs.declared.Thing.TheVariants as thing
 
@@ -50,3 +51,13 @@ front_of_two a b = if a then (if b then 2 else 1) else 0
 -- every number is below this one
 abbrev pub IsBelow : ℕ → List LiveList → Type 0
 IsBelow n ls = Each (λ l. l.list.0 < n) ls
+
+-- a fact of each request
+abbrev pub EachRequest : (Request → Type 0) → List Request → Type 0
+EachRequest P [] = Unit {0}
+EachRequest P (r ∷ rs) = P r × EachRequest P rs
+
+-- no two requests have the same number
+abbrev pub EachApart : List Request → Type 0
+EachApart [] = Unit {0}
+EachApart (r ∷ rs) = EachRequest (λ q. (q.request.0 == r.request.0) ≡ false) rs × EachApart rs

@@ -37,7 +37,7 @@ use Rattle.promise_rules.specs.Followed.{is_of_lane, next_turn, after_next, link
 use Rattle.promise_rules.specs.Followed as promised
 use Rattle.stack_book.specs.Views.{BookView}
 use Rattle.stack_runs.proofs.Added.{did_turns, none_added}
-use Rattle.stack_runs.specs.Adds.{Adds, Told, AreMoves, ArePumps, IsTail, IsCall, OpensTo, EndsTo, is_refused}
+use Rattle.stack_runs.specs.Adds.{AddsTurns, Told, AreMoves, ArePumps, IsTail, IsCall, OpensTo, EndsTo, is_refused}
 use Rattle.script_runs.specs.Calls.{Makes, MakesAll, Ran}
 use Rattle.script_runs.specs.Built as form
 use Rattle.script_runs.proofs.Laws.{journal_at}
@@ -265,7 +265,7 @@ follows_all stacks head lane (c ∷ cs) front xs rest built m n r =
         (later (front ++ m.0) (none_append lane.0 front m.0 n (none_of_lane c.lane lane.0 m.0 e by))))
 
 -- an opening, the calls and an ending are a run
-pub ran : (head : StackHead) (calls : List Call) (a b c d : BookView) → Adds (OpensTo Initialising Opened) a b → Adds (MakesAll calls) b c → (seen head c.core.turns).phase ≡ phase.Running → Adds (EndsTo ending.Pumping ending.Ended) c d → Ran head calls a d
+pub ran : (head : StackHead) (calls : List Call) (a b c d : BookView) → AddsTurns (OpensTo Initialising Opened) a b → AddsTurns (MakesAll calls) b c → (seen head c.core.turns).phase ≡ phase.Running → AddsTurns (EndsTo ending.Pumping ending.Ended) c d → Ran head calls a d
 ran head calls a b c d o m at e =
     let old : List Turn = a.core.turns in
     let mid : c.core.turns ≡ old ++ (o.more ++ m.more) = m.turns ∙ ap (λ (ts : List Turn). ts ++ m.more) o.turns ∙ append_assoc old o.more m.more in
@@ -283,12 +283,12 @@ ran head calls a b c d o m at e =
 
 -- the same, where the stack runs after the calls
 pub ran_at : (head one two : StackHead) (calls : List Call) (a b c d : BookView) (net : Net) (rows : List Row) → one ≡ head → two ≡ one → core.Follows two c.core.turns net rows → rows ≡ [] → net.phase ≡ phase.Running
-    → Adds (OpensTo Initialising Opened) a b → Adds (MakesAll calls) b c → Adds (EndsTo ending.Pumping ending.Ended) c d → Ran head calls a d
+    → AddsTurns (OpensTo Initialising Opened) a b → AddsTurns (MakesAll calls) b c → AddsTurns (EndsTo ending.Pumping ending.Ended) c d → Ran head calls a d
 ran_at head one two calls a b c d net rows e f facts idle at o m x =
     ran head calls a b c d o m (ap (λ (h : StackHead). (seen h c.core.turns).phase) (sym (f ∙ e)) ∙ journal_at two c.core.turns net rows phase.Running facts idle at) x
 
 -- a call and the calls after it
-pub made_all : (c : Call) (cs : List Call) (x y z : BookView) → Adds (Makes c) x y → Adds (MakesAll cs) y z → Adds (MakesAll (c ∷ cs)) x z
+pub made_all : (c : Call) (cs : List Call) (x y z : BookView) → AddsTurns (Makes c) x y → AddsTurns (MakesAll cs) y z → AddsTurns (MakesAll (c ∷ cs)) x z
 made_all c cs x y z p q = record {
   more = p.more ++ q.more;
   turns = q.turns ∙ ap (λ (ts : List Turn). ts ++ q.more) p.turns ∙ append_assoc x.core.turns p.more q.more;
@@ -296,7 +296,7 @@ made_all c cs x y z p q = record {
   kind = (p.more, q.more, refl, p.kind, q.kind);
 }
 
-pub made_none : (s : List Call) (x : BookView) → length s < 1 → Adds (MakesAll s) x x
+pub made_none : (s : List Call) (x : BookView) → length s < 1 → AddsTurns (MakesAll s) x x
 made_none [] x none = none_added (MakesAll []) x refl
 made_none (c ∷ s) x none = absurd (omega arith)
 
@@ -305,10 +305,10 @@ first_and_rest : (s : List Call) (c : Call) → 1 ≤ length s → c ≡ get_or 
 first_and_rest [] c some is = absurd (omega arith)
 first_and_rest (x ∷ s) c some is = ap₂ (λ y ys. y ∷ ys) is (take_rest (x ∷ s) 1)
 
-pub made_first : (s : List Call) (c : Call) (x y z : BookView) → 1 ≤ length s → c ≡ get_or s 0 c → Adds (Makes c) x y → Adds (MakesAll (take (length s - 1) (drop 1 s))) y z → Adds (MakesAll s) x z
-made_first s c x y z some is p q = subst (λ cs. Adds (MakesAll cs) x z) (first_and_rest s c some is) (made_all c (take (length s - 1) (drop 1 s)) x y z p q)
+pub made_first : (s : List Call) (c : Call) (x y z : BookView) → 1 ≤ length s → c ≡ get_or s 0 c → AddsTurns (Makes c) x y → AddsTurns (MakesAll (take (length s - 1) (drop 1 s))) y z → AddsTurns (MakesAll s) x z
+made_first s c x y z some is p q = subst (λ cs. AddsTurns (MakesAll cs) x z) (first_and_rest s c some is) (made_all c (take (length s - 1) (drop 1 s)) x y z p q)
 
-pub makes : (c : Call) (e : Event) (x y : BookView) → event_of c.kind ≡ Some e → Adds (IsCall c.lane e c.pump) x y → Adds (Makes c) x y
+pub makes : (c : Call) (e : Event) (x y : BookView) → event_of c.kind ≡ Some e → AddsTurns (IsCall c.lane e c.pump) x y → AddsTurns (Makes c) x y
 makes c e x y is p = record { more = p.more; turns = p.turns; drivers = p.drivers; kind = record { event = e; asked = is; is = p.kind } }
 
 -- from no turn on, a run is the journal

@@ -14,6 +14,10 @@ use Rattle.home_laws.proofs.Events.{journal_fits}
 use Rattle.home_laws.proofs.Standing.{sound_front}
 use Rattle.pause_laws.proofs.Turns.{holds_nothing, none_while_halted}
 use Rattle.ended_laws.proofs.Ended.{each_is_home}
+use Rattle.configuration_laws.proofs.Chain.{each_has_one_configuration}
+use Rattle.fate_laws.proofs.Both.{all_meet_their_fates}
+use Rattle.completion_laws.proofs.Completes.{each_completes_once}
+use Rattle.serialization_laws.proofs.Overs.{all_are_done}
 use Rattle.script_runs.specs.Laws.{MeetsLaws}
 
 -- between two turns the state is what the journal shows
@@ -30,4 +34,8 @@ meets_laws head turns s at = record {
   home = each_is_home head turns s (none_while_halted head turns s at);
   shown = shows_issued (rows_of turns) (journal_fits head turns s).fit;
   empty = λ before later split. holds_nothing head before (sound_front head before later (subst (Sound head) split s));
+  configuration = each_has_one_configuration head turns s;
+  fates = all_meet_their_fates head turns s;
+  requests = each_completes_once head turns s;
+  completed = all_are_done head turns s at;
 }

@@ -4,8 +4,8 @@ ghost use Rattle.std.specs.List.{list_all};
 ghost use Rattle.ndis_base.specs.declared.Phase.TheVariants as phase;
 ghost use Rattle.home_laws.specs.Rows.{rows_of};
 ghost use Rattle.stack_book.specs.Open.{AreIdle};
-ghost use Rattle.stack_runs.specs.Adds.{Adds};
-ghost use Rattle.stack_runs.specs.Runs.{IsBetween, IsAt, Runs};
+ghost use Rattle.stack_runs.specs.Adds.{AddsTurns};
+ghost use Rattle.stack_runs.specs.Runs.{IsBetween, IsInPhase, Runs};
 ghost use Rattle.script_runs.specs.Calls.{Makes, MakesAll, Ran};
 ghost use Rattle.script_runs.specs.Drivers.{LacksDrivers, LeavesDrivers, ComeBack};
 ghost use Rattle.script_runs.specs.Built as form;
@@ -74,7 +74,7 @@ pub fn run_script(
 }
 
 fn run_whole(book: &mut Book, alloc: Global, calls: &[Call]) -> Result<(), OutOfMemory>
-    requires halted { IsAt (⟦<Book as Shown>⟧.shown book.old) phase.Halted }
+    requires halted { IsInPhase (⟦<Book as Shown>⟧.shown book.old) phase.Halted }
     requires built { list_all (form.is_built_call (⟦<Book as Shown>⟧.shown book.old).core.head) calls.now ≡ true }
     ensures between { IsBetween (⟦<Book as Shown>⟧.shown book.new) }
     ensures halted { OnOk result (Runs (⟦<Book as Shown>⟧.shown book.old) (⟦<Book as Shown>⟧.shown book.new) phase.Halted) }
@@ -88,11 +88,11 @@ fn run_whole(book: &mut Book, alloc: Global, calls: &[Call]) -> Result<(), OutOf
 }
 
 fn run_calls(book: &mut Book, alloc: Global, calls: &[Call]) -> Result<(), OutOfMemory>
-    requires running { IsAt (⟦<Book as Shown>⟧.shown book.old) phase.Running }
+    requires running { IsInPhase (⟦<Book as Shown>⟧.shown book.old) phase.Running }
     requires built { list_all (form.is_built_call (⟦<Book as Shown>⟧.shown book.old).core.head) calls.now ≡ true }
     ensures between { IsBetween (⟦<Book as Shown>⟧.shown book.new) }
     ensures running { OnOk result (Runs (⟦<Book as Shown>⟧.shown book.old) (⟦<Book as Shown>⟧.shown book.new) phase.Running) }
-    ensures added { OnOk result (Adds (MakesAll calls.now) (⟦<Book as Shown>⟧.shown book.old) (⟦<Book as Shown>⟧.shown book.new)) }
+    ensures added { OnOk result (AddsTurns (MakesAll calls.now) (⟦<Book as Shown>⟧.shown book.old) (⟦<Book as Shown>⟧.shown book.new)) }
 {
     let [call, more @ ..] = calls else {
         return Ok(());
@@ -103,11 +103,11 @@ fn run_calls(book: &mut Book, alloc: Global, calls: &[Call]) -> Result<(), OutOf
 }
 
 fn run_one(book: &mut Book, alloc: Global, call: &Call) -> Result<(), OutOfMemory>
-    requires running { IsAt (⟦<Book as Shown>⟧.shown book.old) phase.Running }
+    requires running { IsInPhase (⟦<Book as Shown>⟧.shown book.old) phase.Running }
     requires built { form.is_built_call (⟦<Book as Shown>⟧.shown book.old).core.head call.now ≡ true }
     ensures between { IsBetween (⟦<Book as Shown>⟧.shown book.new) }
     ensures running { OnOk result (Runs (⟦<Book as Shown>⟧.shown book.old) (⟦<Book as Shown>⟧.shown book.new) phase.Running) }
-    ensures added { OnOk result (Adds (Makes call.now) (⟦<Book as Shown>⟧.shown book.old) (⟦<Book as Shown>⟧.shown book.new)) }
+    ensures added { OnOk result (AddsTurns (Makes call.now) (⟦<Book as Shown>⟧.shown book.old) (⟦<Book as Shown>⟧.shown book.new)) }
 {
     let Some(event) = event_of_call(alloc, &call.kind)? else {
         unreachable!()

@@ -20,8 +20,8 @@ hold_in None = false
 hold_in (Some a) = is_hold a.kind
 
 -- the filter is a hold filter
-abbrev pub holds_lists : Modules → ℕ → Bool
-holds_lists ms f = hold_in (attached f ms.filters)
+abbrev pub is_hold_filter : Modules → ℕ → Bool
+is_hold_filter ms f = hold_in (attached f ms.filters)
 
 abbrev pub is_named : ℕ → LiveList → Bool
 is_named id l = is_down l.direction && same_number l.cancel (Some id)
@@ -38,7 +38,7 @@ cancel_rows_at net id m = flat_map (aborted net m) (cancelled_at net id m)
 
 -- the modules that queue sends, from the top down: the hold filters and the miniport
 abbrev pub queues : Modules → List ModuleId
-queues ms = map Filter (filter (holds_lists ms) ms.order) ++ Miniport ∷ []
+queues ms = map Filter (filter (is_hold_filter ms) ms.order) ++ Miniport ∷ []
 
 abbrev pub cancel_outcome : Net → ℕ → Outcome
 cancel_outcome net id = record {

@@ -10,7 +10,7 @@ use Rattle.journal_types.specs.declared.Setup.{Setup}
 use Rattle.journal_types.specs.declared.Event.{Event}
 use Rattle.journal_types.specs.declared.Event.TheVariants as event
 use Rattle.stack_rules.specs.Tests.{is_mux}
-use Rattle.stack_rules.specs.Net.{kind_of_binding, binding_numbers}
+use Rattle.stack_rules.specs.Heads.{kind_of_binding, binding_numbers}
 use Rattle.stack_rules.specs.Outcome.{max_frame}
 
 abbrev pub is_between : ℕ → ℕ → ℕ → Bool
@@ -71,6 +71,6 @@ may_ask head (event.GiveBack binding list) = has_binding head binding && is_betw
 may_ask head (event.Cancel id) = is_identifier id
 may_ask head (event.Ask binding kind code value) = has_binding head binding && nat_le (length value) 8
 may_ask head (event.CrossPut stack message vlan frames) = has_mux head && (nat_lt stack 4 && (is_between 1 4094 vlan && are_frames head frames))
-may_ask head (event.CrossTakeUp binding vlan) = has_link head binding vlan
+may_ask head (event.CrossTakeUp binding vlan) = has_binding head binding && has_link head binding vlan
 may_ask head (event.CrossPutUp stack message frames) = is_lower stack head.link && are_frames head frames
 may_ask head _ = true

@@ -18,7 +18,9 @@ use Rattle.program_types.specs.Apply.{pushed}
 use Rattle.stack_rules.specs.declared.LiveList.{LiveList}
 use Rattle.stack_rules.specs.declared.Message.{Message}
 use Rattle.stack_rules.specs.Tests.{phase_is_running, is_virtual, is_mux, is_running}
-use Rattle.stack_rules.specs.Net.{Net, lists, kind_of_binding, binding_numbers, is_for}
+use Rattle.stack_rules.specs.Heads.{kind_of_binding, binding_numbers}
+use Rattle.stack_rules.specs.Messages.{is_for}
+use Rattle.stack_rules.specs.Net.{Net, lists}
 use Rattle.stack_rules.specs.Places.{position, is_full, kept_lists, is_crossed}
 use Rattle.stack_rules.specs.Targets.{onward, homeward}
 use Rattle.stack_rules.specs.Outcome.{Outcome, answered, refused, root, list_no, cross_no, max_frame}
@@ -39,8 +41,8 @@ abbrev pub take_outcome : Net → Outcome
 take_outcome net = take_of net (first_uncrossed net)
 
 -- the mux binding that a virtual miniport stands on, else the lowest one
-abbrev pub links_from : ℕ → (ℕ × ℕ × ℕ) → Bool
-links_from stack link = link.0 == stack
+abbrev pub is_link_from : ℕ → (ℕ × ℕ × ℕ) → Bool
+is_link_from stack link = link.0 == stack
 
 abbrev pub lowest_mux : StackHead → ℕ
 lowest_mux head = unwrap_or (find (λ b. is_mux (kind_of_binding head b)) (binding_numbers head)) 0
@@ -50,10 +52,10 @@ binding_of_link head None = lowest_mux head
 binding_of_link head (Some link) = link.1
 
 abbrev pub mux_binding_for : StackHead → ℕ → ℕ
-mux_binding_for head stack = binding_of_link head (find (links_from stack) head.uppers)
+mux_binding_for head stack = binding_of_link head (find (is_link_from stack) head.uppers)
 
-abbrev pub grows_too_long : StackHead → List ℕ → Bool
-grows_too_long head frame = nat_lt (max_frame head) (length frame + 4)
+abbrev pub is_too_long_tagged : StackHead → List ℕ → Bool
+is_too_long_tagged head frame = nat_lt (max_frame head) (length frame + 4)
 
 abbrev pub put_rows : Net → ℕ → CrossNo → ℕ → List (List ℕ) → List Row
 put_rows net stack message vlan frames =
@@ -65,7 +67,7 @@ put_rows net stack message vlan frames =
 abbrev pub put_outcome : Net → ℕ → CrossNo → ℕ → List (List ℕ) → Outcome
 put_outcome net stack message vlan frames =
     if phase_is_running net.phase
-    then (if list_any (grows_too_long net.head) frames
+    then (if list_any (is_too_long_tagged net.head) frames
     then refused refusal.TooLong
     else (if is_full net (Binding (mux_binding_for net.head stack))
     then refused refusal.NoList

@@ -13,7 +13,8 @@ use Rattle.journal_types.specs.declared.Row.{Row}
 use Rattle.journal_types.specs.declared.Row.TheVariants as row
 use Rattle.stack_rules.specs.declared.LiveList.{LiveList}
 use Rattle.stack_rules.specs.Tests.{phase_is_running, is_echo, is_retain}
-use Rattle.stack_rules.specs.Net.{Net, kind_of_binding, binding_numbers}
+use Rattle.stack_rules.specs.Heads.{kind_of_binding, binding_numbers}
+use Rattle.stack_rules.specs.Net.{Net}
 use Rattle.stack_rules.specs.Places.{is_full}
 use Rattle.stack_rules.specs.Targets.{onward, homeward}
 use Rattle.stack_rules.specs.Outcome.{root, list_no}
@@ -22,20 +23,24 @@ use Rattle.stack_rules.specs.Outcome.{root, list_no}
 abbrev pub is_broadcast : List ℕ → Bool
 is_broadcast frame = bytes_eq (take 6 frame) (replicate 6 255)
 
--- a group address that isn't the broadcast address (IEEE 802: the lowest bit of the first byte)
+-- the bit of a group address, the lowest of the first byte (IEEE 802)
+abbrev pub group_bit : ℕ
+group_bit = 1
+
+-- a group address that isn't the broadcast address
 abbrev pub is_multicast : List ℕ → Bool
-is_multicast frame = bit_and (slice_index frame 0) 1 == 1 && not (is_broadcast frame)
+is_multicast frame = bit_and (slice_index frame 0) group_bit == group_bit && not (is_broadcast frame)
 
 -- a packet filter takes a frame: directed (bit 0x1), multicast (0x4), broadcast (0x8), all (0x20)
-abbrev pub takes : ℕ → List ℕ → List ℕ → Bool
-takes value address frame =
+abbrev pub is_taken_by : ℕ → List ℕ → List ℕ → Bool
+is_taken_by value address frame =
     (bit_and value 1 == 1 && bytes_eq (take 6 frame) address)
     || ((bit_and value 4 == 4 && is_multicast frame) || ((bit_and value 8 == 8 && is_broadcast frame) || bit_and value 32 == 32))
 
 -- the bindings that take a list, in rising order
 abbrev pub takers : Net → List (List ℕ) → List ℕ
 takers net frames =
-    filter (λ b. takes (slice_index net.port.delivers_by b) net.head.port.address (slice_index_or frames 0 [])) (binding_numbers net.head)
+    filter (λ b. is_taken_by (slice_index net.port.delivers_by b) net.head.port.address (slice_index_or frames 0 [])) (binding_numbers net.head)
 
 -- an echo protocol sends what is delivered to it, only while the stack runs and its pool isn't full
 abbrev pub echoes : Net → ℕ → Bool

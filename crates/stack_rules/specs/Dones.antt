@@ -31,6 +31,7 @@ released net m (origin.Copy o) status = []
 abbrev pub home_rows : Net → LiveList → ListStatus → List Row
 home_rows net l status = row.Home l.list l.owner status ∷ released net l.owner l.origin status
 
+-- the handler of a list on its way home; a lent list is never on its way, so its case never comes
 abbrev pub completed_by : Direction → Handler
 completed_by direction.Down = handler.SendComplete
 completed_by direction.Up = handler.Returned

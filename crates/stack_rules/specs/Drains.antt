@@ -7,13 +7,14 @@ use Rattle.journal_types.specs.declared.Row.{Row}
 use Rattle.journal_types.specs.declared.Reply.TheVariants as reply
 use Rattle.stack_rules.specs.declared.LiveList.{LiveList}
 use Rattle.stack_rules.specs.Tests.{is_retain, is_virtual, phase_is_running}
-use Rattle.stack_rules.specs.Net.{Net, kind_of_binding, binding_numbers}
+use Rattle.stack_rules.specs.Heads.{kind_of_binding, binding_numbers}
+use Rattle.stack_rules.specs.Net.{Net}
 use Rattle.stack_rules.specs.Places.{position, ready_lists}
 use Rattle.stack_rules.specs.Targets.{onward, homeward, turned_back}
 use Rattle.stack_rules.specs.Outcome.{Outcome, answered}
 use Rattle.stack_rules.specs.Sends.{first_of, transmitted}
-use Rattle.stack_rules.specs.Pumps.{pump_moves, pump_outcome}
-use Rattle.stack_rules.specs.Cancels.{holds_lists}
+use Rattle.stack_rules.specs.Pumps.{is_pump_moving, pump_outcome}
+use Rattle.stack_rules.specs.Cancels.{is_hold_filter}
 
 -- a retain protocol returns all that it keeps, the oldest first
 abbrev pub returned_by : Net → LiveList → Row
@@ -27,7 +28,7 @@ abbrev pub passed_by : Net → ℕ → LiveList → Row
 passed_by net f l = onward net.modules l.list l.direction (position net.modules.order (Filter f))
 
 abbrev pub passes_all : Net → ℕ → List Row
-passes_all net f = if holds_lists net.modules f then map (passed_by net f) (ready_lists net (Filter f)) else []
+passes_all net f = if is_hold_filter net.modules f then map (passed_by net f) (ready_lists net (Filter f)) else []
 
 -- a ring or loop adapter transmits its oldest; a virtual miniport turns its oldest uncrossed list back,
 -- only while the phase isn't Running
@@ -56,4 +57,4 @@ drained [] = answered reply.Idle
 drained (r ∷ rows) = record { reply = reply.Moved; rows = r ∷ rows }
 
 abbrev pub drain_outcome : Net → Bool → Outcome
-drain_outcome net keeps = if pump_moves net then pump_outcome net keeps else drained (drain_rows net)
+drain_outcome net keeps = if is_pump_moving net then pump_outcome net keeps else drained (drain_rows net)

@@ -22,7 +22,7 @@ use Rattle.stack_rules.specs.Places.{position, is_full}
 use Rattle.stack_rules.specs.Targets.{onward, turned_back}
 use Rattle.stack_rules.specs.Outcome.{max_frame, list_no, config_no}
 
--- the program for a direction
+-- the program for a direction; a lent list is handled where it is lent, so its case never comes here
 abbrev pub program : Setup → Direction → List Rule
 program setup direction.Down = setup.send
 program setup direction.Up = setup.receive

@@ -1,4 +1,7 @@
 pub mod Tests
+pub mod Heads
+pub mod Port
+pub mod Messages
 pub mod Net
 pub mod Places
 pub mod Targets

@@ -1,8 +1,6 @@
 -- The state after a journal: all that the next turn depends on, and nothing else. It is a fold over the
 -- turns of the journal and their rows.
-use Rattle.std.specs.Prelude.{ℕ, ◌+◌, ◌==◌, ◌&&◌, Bool, true, false, not, nat_lt, List, [], ◌∷◌, ◌++◌, Option, Some, None, if◌then◌else◌, slice_set, slice_index_or, replicate, length, map, filter, find, count_by}
-use Rattle.std.specs.Int.{from_le_bytes, w32}
-use Rattle.std.specs.List.{flat_map}
+use Rattle.std.specs.Prelude.{ℕ, ◌+◌, ◌==◌, Bool, true, false, not, List, [], ◌∷◌, ◌++◌, Option, Some, None, if◌then◌else◌, slice_set, replicate, length, map, filter, find}
 use Rattle.ndis_base.specs.declared.ModuleId.{ModuleId}
 use Rattle.ndis_base.specs.declared.ModuleId.TheVariants.{Miniport, Filter, Binding}
 use Rattle.ndis_base.specs.declared.OidNo.{OidNo}
@@ -10,11 +8,9 @@ use Rattle.ndis_base.specs.declared.ModuleState.{ModuleState}
 use Rattle.ndis_base.specs.declared.ModuleState.TheVariants as state
 use Rattle.ndis_base.specs.declared.Phase.{Phase}
 use Rattle.ndis_base.specs.declared.Phase.TheVariants as phase
-use Rattle.ndis_base.specs.declared.ProtocolKind.{ProtocolKind}
-use Rattle.ndis_base.specs.declared.ProtocolKind.TheVariants as protocol_kind
 use Rattle.ndis_base.specs.declared.FilterKind.{FilterKind}
 use Rattle.ndis_base.specs.declared.OidStatus.{OidStatus}
-use Rattle.program_types.specs.Apply.{is_tagged, vlan_of, popped}
+use Rattle.ndis_base.specs.declared.Handlers.{Handlers}
 use Rattle.journal_types.specs.declared.StackHead.{StackHead}
 use Rattle.journal_types.specs.declared.Setup.{Setup}
 use Rattle.journal_types.specs.declared.Target.{Target}
@@ -38,7 +34,9 @@ use Rattle.stack_rules.specs.declared.RequestAt.TheVariants as at
 use Rattle.stack_rules.specs.declared.Request.{Request}
 use Rattle.stack_rules.specs.declared.Attached.{Attached}
 use Rattle.stack_rules.specs.declared.Message.{Message}
-use Rattle.stack_rules.specs.Tests.{is_miniport, is_halted, is_set, is_success, is_mux}
+use Rattle.stack_rules.specs.Tests.{is_miniport, is_halted}
+use Rattle.stack_rules.specs.Port.{Port, first_port, port_after_done, port_after_out}
+use Rattle.stack_rules.specs.Messages.{without_oldest, messages_after, messages_in_phase}
 
 -- the modules: the miniport's state, each binding's, the filters that are attached, and the
 -- configuration: its number, and its filters from top to bottom
@@ -48,15 +46,6 @@ pub record Modules : Type 0 where
   pub filters : List Attached
   pub config : ℕ
   pub order : List ℕ
-
--- what the miniport answers requests by: the frames that it sent and that it indicated, and the packet
--- filter of each binding that it set last; and beside it the packet filter of each binding by which lists
--- are delivered to it
-pub record Port : Type 0 where
-  pub sent : ℕ
-  pub received : ℕ
-  pub answers_by : List ℕ
-  pub delivers_by : List ℕ
 
 -- the numbers that come next
 pub record Counters : Type 0 where
@@ -78,21 +67,6 @@ pub record Net : Type 0 where
   pub port : Port
   pub messages : List Message
   pub next : Counters
-
--- the numbers of the bindings, in rising order
-abbrev pub numbers_from : ℕ → List (ProtocolKind × ℕ) → List ℕ
-numbers_from b [] = []
-numbers_from b (setup ∷ setups) = b ∷ numbers_from (b + 1) setups
-
-abbrev pub binding_numbers : StackHead → List ℕ
-binding_numbers head = numbers_from 0 head.bindings
-
--- a binding's packet filter before it is set: all frames (bit 0x20)
-abbrev pub first_filters : StackHead → List ℕ
-first_filters head = replicate (length head.bindings) 32
-
-abbrev pub first_port : StackHead → Port
-first_port head = record { sent = 0; received = 0; answers_by = first_filters head; delivers_by = first_filters head }
 
 -- before the first turn
 abbrev pub start : StackHead → Net
@@ -133,38 +107,39 @@ with_list n f (thing.Status s) = thing.Status s
 with_list n f (thing.Answer a) = thing.Answer a
 
 -- the list of this number is changed in its place
-abbrev pub changed : ℕ → (LiveList → LiveList) → List Thing → List Thing
-changed n f ts = map (with_list n f) ts
+abbrev pub after_change : ℕ → (LiveList → LiveList) → List Thing → List Thing
+after_change n f ts = map (with_list n f) ts
 
 abbrev pub at_end : List Thing → Option LiveList → List Thing
 at_end ts None = ts
 at_end ts (Some l) = ts ++ thing.List l ∷ []
 
-abbrev pub kept_by : ModuleId → Option LiveList → Option LiveList
-kept_by m None = None
-kept_by m (Some l) = Some (record l { last = m; stand = stand.Kept m })
+abbrev pub as_kept : ModuleId → Option LiveList → Option LiveList
+as_kept m None = None
+as_kept m (Some l) = Some (record l { last = m; stand = stand.Kept m })
 
 -- a list on its way; a taken list that is passed on is no longer with the other stack
-abbrev pub passed_to : PassWay → Target → Option LiveList → Option LiveList
-passed_to way to None = None
-passed_to way to (Some l) = Some (record l { stand = stand.Passed way to; crossed = None })
+abbrev pub as_passed : PassWay → Target → Option LiveList → Option LiveList
+as_passed way to None = None
+as_passed way to (Some l) = Some (record l { stand = stand.Passed way to; crossed = None })
 
 -- the list goes to the end, as kept or as passed
-abbrev pub kept : ℕ → ModuleId → List Thing → List Thing
-kept n m ts = at_end (without n ts) (kept_by m (list_of n (lists ts)))
+abbrev pub after_keep : ℕ → ModuleId → List Thing → List Thing
+after_keep n m ts = at_end (without n ts) (as_kept m (list_of n (lists ts)))
 
-abbrev pub passed : ℕ → PassWay → Target → List Thing → List Thing
-passed n way to ts = at_end (without n ts) (passed_to way to (list_of n (lists ts)))
+abbrev pub after_pass : ℕ → PassWay → Target → List Thing → List Thing
+after_pass n way to ts = at_end (without n ts) (as_passed way to (list_of n (lists ts)))
 
 abbrev pub is_status : ℕ → Thing → Bool
 is_status n (thing.Status s) = s.number.0 == n
 is_status n (thing.List l) = false
 is_status n (thing.Answer a) = false
 
-abbrev pub answers : ℕ → Thing → Bool
-answers parent (thing.Answer a) = a.parent.0 == parent
-answers parent (thing.List l) = false
-answers parent (thing.Status s) = false
+-- the answer to a clone of this request
+abbrev pub is_answer_to : ℕ → Thing → Bool
+is_answer_to parent (thing.Answer a) = a.parent.0 == parent
+is_answer_to parent (thing.List l) = false
+is_answer_to parent (thing.Status s) = false
 
 -- the filters
 abbrev pub attached : ℕ → List Attached → Option Attached
@@ -192,13 +167,14 @@ port_after net Miniport = if is_halted net.modules.miniport then first_port net.
 port_after net (Binding b) = net.port
 port_after net (Filter f) = net.port
 
-abbrev pub has_oid_pair : Option Attached → Bool
-has_oid_pair None = false
-has_oid_pair (Some a) = a.setup.handlers.oid
+-- a filter's handlers; a filter that isn't attached has none
+abbrev pub handlers_of : Option Attached → Handlers
+handlers_of None = record { send = false; receive = false; oid = false; status = false }
+handlers_of (Some a) = a.setup.handlers
 
 -- whether a filter has the OID pair
 abbrev pub has_oid : Modules → ℕ → Bool
-has_oid ms f = has_oid_pair (attached f ms.filters)
+has_oid ms f = (handlers_of (attached f ms.filters)).oid
 
 -- the filters below a filter, from top to bottom
 abbrev pub below : ℕ → List ℕ → List ℕ
@@ -213,11 +189,13 @@ first_oid ms (f ∷ fs) = if has_oid ms f then Filter f else first_oid ms fs
 abbrev pub request_of : ℕ → List Request → Option Request
 request_of n rs = find (λ r. r.request.0 == n) rs
 
--- a clone waits at the next OID module below the one that its parent was given to
+-- a clone waits at the next OID module below the filter that its parent was given to; no parent of a clone
+-- is elsewhere, so the last case never comes
 abbrev pub place_below : Modules → RequestAt → RequestAt
 place_below ms (at.Given (Filter f)) = at.Waiting (first_oid ms (below f ms.order))
 place_below ms _ = at.Entry
 
+-- a clone's parent is there; the first case never comes
 abbrev pub place_of_clone : Modules → Option Request → RequestAt
 place_of_clone ms None = at.Entry
 place_of_clone ms (Some parent) = place_below ms parent.at
@@ -230,106 +208,24 @@ abbrev pub given_to : ℕ → ModuleId → Request → Request
 given_to n m r = if r.request.0 == n then record r { at = at.Given m } else r
 
 -- a request that is done is its parent's answer, or no more
-abbrev pub answer_to : Option OidNo → OidNo → OidStatus → List ℕ → List Thing → List Thing
-answer_to None request status value ts = ts
-answer_to (Some parent) request status value ts = ts ++ thing.Answer (record { request = request; parent = parent; status = status; value = value }) ∷ []
+abbrev pub after_answer : Option OidNo → OidNo → OidStatus → List ℕ → List Thing → List Thing
+after_answer None request status value ts = ts
+after_answer (Some parent) request status value ts = ts ++ thing.Answer (record { request = request; parent = parent; status = status; value = value }) ∷ []
 
-abbrev pub things_done : Option Request → OidNo → OidStatus → List ℕ → List Thing → List Thing
-things_done None request status value ts = ts
-things_done (Some r) request status value ts = answer_to r.parent request status value (filter (λ t. not (answers request.0 t)) ts)
-
--- OID_GEN_CURRENT_PACKET_FILTER
-abbrev pub packet_filter_code : ℕ
-packet_filter_code = 65806
-
--- the request sets its binding's packet filter, and was answered so
-abbrev pub sets_filter : Request → OidStatus → Bool
-sets_filter r status = is_success status && (is_set r.kind && r.code == packet_filter_code)
-
-abbrev pub is_given_to_miniport : RequestAt → Bool
-is_given_to_miniport (at.Given m) = is_miniport m
-is_given_to_miniport _ = false
-
-abbrev pub no_parent : Option OidNo → Bool
-no_parent None = true
-no_parent (Some p) = false
-
-abbrev pub set_when : Bool → List ℕ → ℕ → List ℕ → List ℕ
-set_when b filters binding value = if b then slice_set filters binding (from_le_bytes w32 value) else filters
-
-abbrev pub port_done : Option Request → OidStatus → Port → Port
-port_done None status port = port
-port_done (Some r) status port = record port {
-  answers_by = set_when (sets_filter r status && is_given_to_miniport r.at) port.answers_by r.binding r.value;
-  delivers_by = set_when (sets_filter r status && no_parent r.parent) port.delivers_by r.binding r.value;
-}
-
--- the VLANs of a mux binding, in rising order
-abbrev pub vlan_of_link : ℕ → (ℕ × ℕ × ℕ) → List ℕ
-vlan_of_link binding link = if link.1 == binding then link.2 ∷ [] else []
-
-abbrev pub put_rising : ℕ → List ℕ → List ℕ
-put_rising v [] = v ∷ []
-put_rising v (w ∷ ws) = if nat_lt w v then w ∷ put_rising v ws else v ∷ w ∷ ws
-
-abbrev pub rising : List ℕ → List ℕ
-rising [] = []
-rising (v ∷ vs) = put_rising v (rising vs)
-
-abbrev pub vlans_of : StackHead → ℕ → List ℕ
-vlans_of head binding = rising (flat_map (vlan_of_link binding) head.uppers)
-
-abbrev pub kind_of_binding : StackHead → ℕ → ProtocolKind
-kind_of_binding head binding = (slice_index_or head.bindings binding (protocol_kind.Log, 0)).0
-
--- the frames with the tag of a VLAN, without it
-abbrev pub untagged_of : ℕ → List (List ℕ) → List (List ℕ)
-untagged_of vlan frames = map popped (filter (λ x. is_tagged x && vlan_of x == vlan) frames)
-
-abbrev pub is_kept_for : ℕ → Message → Bool
-is_kept_for binding m = m.binding == binding
-
--- one more message, as long as fewer than 256 are kept
-abbrev pub with_message : ℕ → ℕ → List (List ℕ) → List Message → List Message
-with_message binding vlan [] ms = ms
-with_message binding vlan (x ∷ xs) ms =
-    if nat_lt (count_by (is_kept_for binding) ms) 256 then ms ++ record { binding = binding; vlan = vlan; frames = x ∷ xs } ∷ [] else ms
-
-abbrev pub with_messages : ℕ → List ℕ → List (List ℕ) → List Message → List Message
-with_messages binding [] frames ms = ms
-with_messages binding (vlan ∷ vlans) frames ms = with_messages binding vlans frames (with_message binding vlan (untagged_of vlan frames) ms)
-
-abbrev pub messages_after : StackHead → ℕ → List (List ℕ) → List Message → List Message
-messages_after head binding frames ms =
-    if is_mux (kind_of_binding head binding) then with_messages binding (vlans_of head binding) frames ms else ms
-
--- the messages but the oldest of a VLAN
-abbrev pub is_for : ℕ → ℕ → Message → Bool
-is_for binding vlan m = m.binding == binding && m.vlan == vlan
-
-abbrev pub without_oldest : ℕ → ℕ → List Message → List Message
-without_oldest binding vlan [] = []
-without_oldest binding vlan (m ∷ ms) = if is_for binding vlan m then ms else m ∷ without_oldest binding vlan ms
-
--- messages that nobody took are given up at halt
-abbrev pub messages_in : Phase → List Message → List Message
-messages_in phase.Halted ms = []
-messages_in _ ms = ms
+abbrev pub things_after_done : Option Request → OidNo → OidStatus → List ℕ → List Thing → List Thing
+things_after_done None request status value ts = ts
+things_after_done (Some r) request status value ts = after_answer r.parent request status value (filter (λ t. not (is_answer_to request.0 t)) ts)
 
 abbrev pub taken_by : ℕ → LiveList → LiveList
 taken_by message l = record l { crossed = Some (record { 0 = message }) }
 
-abbrev pub things_out : ℕ → OutWay → List Thing → List Thing
-things_out message (out.Down list) ts = changed list.0 (taken_by message) ts
-things_out message out.Up ts = ts
-
-abbrev pub port_out : StackHead → OutWay → ℕ → Port → Port
-port_out head (out.Down list) many port = record port { sent = port.sent + many }
-port_out head out.Up many port = port
+abbrev pub things_after_out : ℕ → OutWay → List Thing → List Thing
+things_after_out message (out.Down list) ts = after_change list.0 (taken_by message) ts
+things_after_out message out.Up ts = ts
 
 -- the number after this one, where it is the next
-abbrev pub past : ℕ → ℕ → ℕ
-past next n = if n == next then next + 1 else next
+abbrev pub number_past : ℕ → ℕ → ℕ
+number_past next n = if n == next then next + 1 else next
 
 abbrev pub had_by : ModuleId → LiveList → LiveList
 had_by m l = record l { last = m }
@@ -349,10 +245,10 @@ after net (row.Issue list owner config direction cancel origin frames) = record 
   port = record net.port { received = if is_miniport owner then net.port.received + length frames else net.port.received };
   next = record net.next { list = net.next.list + 1 };
 }
-after net (row.Give list m handler) = record net { things = changed list.0 (had_by m) net.things }
-after net (row.Pass list way to) = record net { things = passed list.0 way to net.things }
-after net (row.Keep list m) = record net { things = kept list.0 m net.things }
-after net (row.TurnBack list m status) = record net { things = changed list.0 (had_by m) net.things }
+after net (row.Give list m handler) = record net { things = after_change list.0 (had_by m) net.things }
+after net (row.Pass list way to) = record net { things = after_pass list.0 way to net.things }
+after net (row.Keep list m) = record net { things = after_keep list.0 m net.things }
+after net (row.TurnBack list m status) = record net { things = after_change list.0 (had_by m) net.things }
 after net (row.Home list owner status) = record net { things = without list.0 net.things }
 after net (row.Wire list frames) = record net { port = record net.port { sent = net.port.sent + length frames } }
 after net (row.Deliver list binding how frames) = record net { messages = messages_after net.head binding frames net.messages }
@@ -361,7 +257,7 @@ after net (row.Phase (of.Module m s)) = record net {
   port = port_after net m;
   next = record net.next { filter = filter_after m s net.next.filter };
 }
-after net (row.Phase (of.Stack p)) = record net { phase = p; messages = messages_in p net.messages }
+after net (row.Phase (of.Stack p)) = record net { phase = p; messages = messages_in_phase p net.messages }
 after net (row.Config config filters) = record net { modules = record net.modules { config = config.0; order = filters } }
 after net (row.OidIssue request parent binding kind code value) = record net {
   requests = net.requests ++ record { request = request; parent = parent; binding = binding; kind = kind; code = code; value = value; at = place_of_request net.modules net.requests parent } ∷ [];
@@ -369,18 +265,18 @@ after net (row.OidIssue request parent binding kind code value) = record net {
 }
 after net (row.OidGive request m) = record net { requests = map (given_to request.0 m) net.requests }
 after net (row.OidDone request status value) = record net {
-  things = things_done (request_of request.0 net.requests) request status value net.things;
+  things = things_after_done (request_of request.0 net.requests) request status value net.things;
   requests = filter (λ r. not (r.request.0 == request.0)) net.requests;
-  port = port_done (request_of request.0 net.requests) status net.port;
+  port = port_after_done (request_of request.0 net.requests) status net.port;
 }
 after net (row.Status number name to) = record net {
   things = without_status number.0 net.things ++ thing.Status (record { number = number; name = name; to = to }) ∷ [];
-  next = record net.next { status = past net.next.status number.0 };
+  next = record net.next { status = number_past net.next.status number.0 };
 }
 after net (row.Seen number m) = record net { things = without_status number.0 net.things }
 after net (row.CrossOut message way frames) = record net {
-  things = things_out message.0 way net.things;
-  port = port_out net.head way (length frames) net.port;
+  things = things_after_out message.0 way net.things;
+  port = port_after_out way (length frames) net.port;
   next = record net.next { message = net.next.message + 1 };
 }
 after net (row.CrossIn stack message way frames) = net

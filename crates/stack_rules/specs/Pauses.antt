@@ -22,7 +22,7 @@ use Rattle.stack_rules.specs.Places.{outstanding, state_of}
 use Rattle.stack_rules.specs.Outcome.{Outcome, answered, refused, config_no}
 use Rattle.stack_rules.specs.Requests.{is_at_entry}
 
--- the modules at each position, from the top: all bindings, each filter, the miniport
+-- the bindings, in rising order
 abbrev pub binding_ids : ℕ → List ModuleState → List ModuleId
 binding_ids b [] = []
 binding_ids b (s ∷ ss) = Binding b ∷ binding_ids (b + 1) ss
@@ -30,6 +30,7 @@ binding_ids b (s ∷ ss) = Binding b ∷ binding_ids (b + 1) ss
 abbrev pub one : ModuleId → List ModuleId
 one m = m ∷ []
 
+-- the modules at each position, from the top: all bindings, each filter, the miniport
 abbrev pub floors : Modules → List (List ModuleId)
 floors ms = binding_ids 0 ms.bindings ∷ (map (λ f. one (Filter f)) ms.order ++ one Miniport ∷ [])
 
@@ -62,14 +63,16 @@ begin_outcome net =
     }
     else refused (refusal.WrongPhase net.phase)
 
--- how many positions from the top are Paused
+-- all of some modules are in a state
 abbrev pub all_are : (ModuleState → Bool) → Net → List ModuleId → Bool
 all_are test net ms = list_all (λ m. test (state_of net m)) ms
 
+-- how many positions at the front pass a test
 abbrev pub count_front : (List ModuleId → Bool) → List (List ModuleId) → ℕ
 count_front test [] = 0
 count_front test (ms ∷ others) = if test ms then count_front test others + 1 else 0
 
+-- how many positions from the top are Paused: the first that isn't comes next
 abbrev pub first_unpaused : Net → ℕ
 first_unpaused net = count_front (all_are is_paused net) (floors net.modules)
 
@@ -97,13 +100,14 @@ pause_outcome net = if phase_is_pausing net.phase then pause_at net (first_unpau
 abbrev pub running_floors : Net → ℕ
 running_floors net = count_front (all_are is_running net) (reverse (floors net.modules))
 
--- the lowest position that doesn't run, i from the bottom, restarts and runs
+-- the first restart of a Paused stack tells its phase
 abbrev pub restarting : Net → List Row
 restarting net = if phase_is_paused net.phase then row.Phase (of.Stack phase.Restarting) ∷ [] else []
 
 abbrev pub is_top : Net → ℕ → Bool
 is_top net i = i + 1 == length (floors net.modules)
 
+-- the lowest position that doesn't run, i from the bottom, restarts and runs
 abbrev pub restart_rows : Net → ℕ → List Row
 restart_rows net i =
     restarting net
@@ -119,7 +123,6 @@ restart_outcome net =
     then restart_at net (running_floors net)
     else refused (refusal.WrongPhase net.phase)
 
--- live items: statuses on their way, and requests that have left the entry and aren't done
 abbrev pub is_status_thing : Thing → Bool
 is_status_thing (thing.Status s) = true
 is_status_thing (thing.List l) = false
@@ -128,9 +131,11 @@ is_status_thing (thing.Answer a) = false
 abbrev pub statuses_away : Net → ℕ
 statuses_away net = count_by is_status_thing net.things
 
+-- what a rewire waits for: statuses on their way, and requests that have left the entry and aren't done
 abbrev pub live_items : Net → ℕ
 live_items net = statuses_away net + count_by (λ r. not (is_at_entry r.at)) net.requests
 
+-- what a halt waits for: requests at the entry too
 abbrev pub halt_items : Net → ℕ
 halt_items net = statuses_away net + length net.requests
 

@@ -52,12 +52,12 @@ is_at_most i None = false
 is_at_most i (Some p) = nat_le p i
 
 -- the list counts at a position: a module there owns it, or it stands there or above
-abbrev pub counts_at : List ℕ → ℕ → LiveList → Bool
-counts_at order i l = (position order l.owner == i) || is_at_most i (position_in order l.last l.stand)
+abbrev pub is_counted_at : List ℕ → ℕ → LiveList → Bool
+is_counted_at order i l = (position order l.owner == i) || is_at_most i (position_in order l.last l.stand)
 
 -- how many lists a position has outstanding
 abbrev pub outstanding : Net → ℕ → ℕ
-outstanding net i = count_by (counts_at net.modules.order i) (lists net.things)
+outstanding net i = count_by (is_counted_at net.modules.order i) (lists net.things)
 
 abbrev pub is_kept_by : ModuleId → Stand → Bool
 is_kept_by m (stand.Kept keeper) = same_module keeper m
@@ -84,12 +84,12 @@ is_crossed None = false
 is_crossed (Some message) = true
 
 -- a kept list waits where it has crossed to another stack or a clone of it is live; else it is ready
-abbrev pub waits : Net → LiveList → Bool
-waits net l = is_crossed l.crossed || has_clone net l.list.0
+abbrev pub is_waiting : Net → LiveList → Bool
+is_waiting net l = is_crossed l.crossed || has_clone net l.list.0
 
 -- the ready lists that a module keeps, the oldest first
 abbrev pub ready_lists : Net → ModuleId → List LiveList
-ready_lists net m = filter (λ l. not (waits net l)) (kept_lists net m)
+ready_lists net m = filter (λ l. not (is_waiting net l)) (kept_lists net m)
 
 -- on its way: the agenda's items
 abbrev pub is_away : Thing → Bool
@@ -109,7 +109,7 @@ agenda_first net = find is_away net.things
 abbrev pub owned : Net → ModuleId → ℕ
 owned net m = count_by (λ l. same_module l.owner m) (lists net.things)
 
--- the lists in a module's pool
+-- the lists in the pool of a filter, and of any module
 abbrev pub pool_in : Option Attached → ℕ
 pool_in None = 0
 pool_in (Some a) = a.setup.pool

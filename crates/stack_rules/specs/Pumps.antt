@@ -43,5 +43,5 @@ abbrev pub pump_outcome : Net → Bool → Outcome
 pump_outcome net keeps = pump_of net keeps (agenda_first net)
 
 -- a pump would move something
-abbrev pub pump_moves : Net → Bool
-pump_moves net = is_some (agenda_first net) || is_some (next_giving net)
+abbrev pub is_pump_moving : Net → Bool
+is_pump_moving net = is_some (agenda_first net) || is_some (next_giving net)

@@ -28,7 +28,7 @@ use Rattle.stack_rules.specs.Outcome.{Outcome, refused, root, list_no, config_no
 use Rattle.stack_rules.specs.Handled.{filter_rows}
 use Rattle.stack_rules.specs.Deliveries.{delivered, delivery_rows, takers}
 
--- a module that isn't Running turns a receive back
+-- a filter that isn't Running turns a receive back
 abbrev pub up_at_filter : Net → Option Attached → LiveList → Bool → List Row
 up_at_filter net None l keeps = []
 up_at_filter net (Some a) l keeps =
@@ -57,7 +57,7 @@ indicate_outcome net frames =
     else record { reply = reply.Indicated (list_no net.next.list); rows = indicated net frames })
     else refused refusal.NotRunning
 
--- a lent list is home where it stops
+-- a lent list is home in its own turn, where it stops
 abbrev pub lent_home : ListNo → ListStatus → List Row
 lent_home list status = row.Home list Miniport status ∷ []
 
@@ -75,11 +75,12 @@ abbrev pub lent_changes : Net → Attached → ListNo → List (List ℕ) → Li
 lent_changes net a list frames =
     if is_full net (Filter a.filter) then lent_back list (Filter a.filter) Resources else copied net a list frames
 
--- at a filter: above is what happens further up
+-- what a filter makes of a lent list: where it leaves it as it is, what happens further up follows
 abbrev pub lent_handled : Net → Attached → ListNo → List (List ℕ) → List Row → Option (List (List ℕ)) → List Row
 lent_handled net a list frames further None = lent_back list (Filter a.filter) Dropped
 lent_handled net a list frames further (Some made) = if same_frames made frames then further else lent_changes net a list made
 
+-- a lent list at a filter that has the receive pair
 abbrev pub lent_at : Net → Option Attached → ListNo → List (List ℕ) → List Row → List Row
 lent_at net None list frames further = further
 lent_at net (Some a) list frames further =
@@ -88,6 +89,7 @@ lent_at net (Some a) list frames further =
     ∷ lent_handled net a list frames further (applied (max_frame net.head) a.setup.receive frames)
     else lent_back list (Filter a.filter) Paused
 
+-- a lent list at the bindings
 abbrev pub lent_delivery : Net → ListNo → List (List ℕ) → List Row
 lent_delivery net list frames =
     if phase_is_running net.phase

@@ -24,9 +24,9 @@ abbrev pub is_given_to : ModuleId → RequestAt → Bool
 is_given_to m (at.Given holder) = same_module holder m
 is_given_to m _ = false
 
-abbrev pub waits_at : ModuleId → RequestAt → Bool
-waits_at m (at.Waiting holder) = same_module holder m
-waits_at m _ = false
+abbrev pub is_waiting_at : ModuleId → RequestAt → Bool
+is_waiting_at m (at.Waiting holder) = same_module holder m
+is_waiting_at m _ = false
 
 abbrev pub is_at_entry : RequestAt → Bool
 is_at_entry at.Entry = true
@@ -37,11 +37,11 @@ abbrev pub is_busy : List Request → ModuleId → Bool
 is_busy rs m = list_any (λ r. is_given_to m r.at) rs
 
 abbrev pub has_waiting : List Request → ModuleId → Bool
-has_waiting rs m = list_any (λ r. waits_at m r.at) rs
+has_waiting rs m = list_any (λ r. is_waiting_at m r.at) rs
 
 -- the first request that waits at a module
 abbrev pub first_waiting : List Request → ModuleId → Option Request
-first_waiting rs m = find (λ r. waits_at m r.at) rs
+first_waiting rs m = find (λ r. is_waiting_at m r.at) rs
 
 -- the modules that take requests, the lowest first: the miniport, and the filters with the OID pair
 abbrev pub filter_ids : List ℕ → List ModuleId

@@ -14,69 +14,61 @@ use Rattle.journal_types.specs.declared.Row.{Row}
 use Rattle.journal_types.specs.declared.Row.TheVariants as row
 use Rattle.stack_rules.specs.declared.LiveList.{LiveList}
 use Rattle.stack_rules.specs.declared.Attached.{Attached}
-use Rattle.stack_rules.specs.Net.{Modules, attached}
+use Rattle.stack_rules.specs.Net.{Modules, attached, handlers_of}
 use Rattle.stack_rules.specs.Places.{position}
 
-abbrev pub send_pair : Option Attached → Bool
-send_pair None = false
-send_pair (Some a) = a.setup.handlers.send
-
-abbrev pub receive_pair : Option Attached → Bool
-receive_pair None = false
-receive_pair (Some a) = a.setup.handlers.receive
-
-abbrev pub status_handler : Option Attached → Bool
-status_handler None = false
-status_handler (Some a) = a.setup.handlers.status
-
+-- whether a filter has the send pair, the receive pair, or the status handler
 abbrev pub has_send : Modules → ℕ → Bool
-has_send ms f = send_pair (attached f ms.filters)
+has_send ms f = (handlers_of (attached f ms.filters)).send
 
 abbrev pub has_receive : Modules → ℕ → Bool
-has_receive ms f = receive_pair (attached f ms.filters)
+has_receive ms f = (handlers_of (attached f ms.filters)).receive
 
 abbrev pub has_status : Modules → ℕ → Bool
-has_status ms f = status_handler (attached f ms.filters)
+has_status ms f = (handlers_of (attached f ms.filters)).status
 
--- the first of some filters with what is needed, else another target
+-- the first of these filters that has the handlers, and where none has them the other target
 abbrev pub first_filter : (ℕ → Bool) → List ℕ → Target → Target
 first_filter has [] other = other
 first_filter has (f ∷ fs) other = if has f then Module (Filter f) else first_filter has fs other
 
--- the filters above a position, the nearest first; only those below another position
-abbrev pub filters_above : Modules → ℕ → List ℕ
-filters_above ms i = reverse (take (i - 1) ms.order)
-
+-- the filters strictly between two positions, and those above or below one, from top to bottom
 abbrev pub filters_between : Modules → ℕ → ℕ → List ℕ
-filters_between ms top i = reverse (drop top (take (i - 1) ms.order))
+filters_between ms top bottom = drop top (take (bottom - 1) ms.order)
+
+abbrev pub filters_above : Modules → ℕ → List ℕ
+filters_above ms i = take (i - 1) ms.order
+
+abbrev pub filters_below : Modules → ℕ → List ℕ
+filters_below ms i = drop i ms.order
 
 -- a send goes down to the next filter with the send pair, else to the miniport
 abbrev pub next_down : Modules → ℕ → Target
-next_down ms i = first_filter (has_send ms) (drop i ms.order) (Module Miniport)
+next_down ms i = first_filter (has_send ms) (filters_below ms i) (Module Miniport)
 
 -- a receive goes up to the next filter with the receive pair, else to the bindings
 abbrev pub next_up : Modules → ℕ → Target
-next_up ms i = first_filter (has_receive ms) (filters_above ms i) Bindings
+next_up ms i = first_filter (has_receive ms) (reverse (filters_above ms i)) Bindings
 
 -- a done send goes up through the filters that had passed it, and to its owner
 abbrev pub next_done : Modules → ℕ → ModuleId → Target
-next_done ms i owner = first_filter (has_send ms) (filters_between ms (position ms.order owner) i) (Module owner)
+next_done ms i owner = first_filter (has_send ms) (reverse (filters_between ms (position ms.order owner) i)) (Module owner)
 
 -- a returned receive goes down through the filters that had passed it, and to its owner
 abbrev pub next_back : Modules → ℕ → ModuleId → Target
-next_back ms i owner = first_filter (has_receive ms) (drop i (take (position ms.order owner - 1) ms.order)) (Module owner)
+next_back ms i owner = first_filter (has_receive ms) (filters_between ms i (position ms.order owner)) (Module owner)
 
 -- a status goes up to the next filter with the status handler, else to the bindings
 abbrev pub next_status : Modules → ℕ → Target
-next_status ms i = first_filter (has_status ms) (filters_above ms i) Bindings
+next_status ms i = first_filter (has_status ms) (reverse (filters_above ms i)) Bindings
 
--- onwards: down for a send, up for a receive
+-- onwards: down for a send, up for a receive; a lent list itself never goes on its way, so its case never comes
 abbrev pub onward : Modules → ListNo → Direction → ℕ → Row
 onward ms list direction.Down i = row.Pass list way.Down (next_down ms i)
 onward ms list direction.Up i = row.Pass list way.Up (next_up ms i)
 onward ms list direction.Lent i = row.Pass list way.Up (next_up ms i)
 
--- homewards: done for a send, back for a receive
+-- homewards: done for a send, back for a receive; a lent list is home in its own turn, so its case never comes
 abbrev pub homeward_by : Modules → ListNo → ModuleId → Direction → ℕ → ListStatus → Row
 homeward_by ms list owner direction.Down i status = row.Pass list (way.Done status) (next_done ms i owner)
 homeward_by ms list owner direction.Up i status = row.Pass list (way.Back status) (next_back ms i owner)

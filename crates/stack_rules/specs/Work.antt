@@ -12,8 +12,9 @@ use Rattle.stack_rules.specs.declared.RequestAt.{RequestAt}
 use Rattle.stack_rules.specs.declared.RequestAt.TheVariants as at
 use Rattle.stack_rules.specs.declared.Request.{Request}
 use Rattle.stack_rules.specs.Tests.{is_binding, is_down, is_echo, phase_is_running}
-use Rattle.stack_rules.specs.Net.{Net, kind_of_binding, binding_numbers, request_of}
-use Rattle.stack_rules.specs.Places.{position, position_of_target, waits}
+use Rattle.stack_rules.specs.Heads.{kind_of_binding, binding_numbers}
+use Rattle.stack_rules.specs.Net.{Net, request_of}
+use Rattle.stack_rules.specs.Places.{position, position_of_target, is_waiting}
 
 -- the miniport's position
 abbrev pub bottom : Net → ℕ
@@ -49,7 +50,7 @@ holder_position net None = 0
 holder_position net (Some r) = given_position net r.at
 
 abbrev pub thing_work : Net → Thing → ℕ
-thing_work net (thing.List l) = if waits net l then 0 else list_work net l l.stand
+thing_work net (thing.List l) = if is_waiting net l then 0 else list_work net l l.stand
 thing_work net (thing.Status s) = position_of_target net.modules.order s.to + 1
 thing_work net (thing.Answer a) = holder_position net (request_of a.parent.0 net.requests)
 

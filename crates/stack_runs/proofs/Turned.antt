@@ -24,7 +24,7 @@ use Rattle.first_form.proofs.Progress.{pump_gives, DrainGives, drain_gives, tran
 use Rattle.stack_core.specs.Core.{Follows}
 use Rattle.stack_book.specs.Views.{BookView}
 use Rattle.stack_book.specs.Turns.{AddsTurn, asked_turn}
-use Rattle.stack_runs.specs.Runs.{IsBetween, IsAt, Runs, MayCall, Turned, IsWaiting, pause_to_go}
+use Rattle.stack_runs.specs.Runs.{IsBetween, IsInPhase, Runs, MayCall, Turned, IsWaiting, pause_to_go}
 
 turns_more : (net : Net) (turns : List Turn) (turn : Turn) → after_turns net (turns ++ turn ∷ []) ≡ after_turn (after_turns net turns) turn
 turns_more net [] turn = refl
@@ -73,10 +73,10 @@ next_seen old new e r t = subst (λ (n : Net). Next n t.turn) t.before t.next
 pub pump_fewer : (old new : BookView) (r : Reply) → Turned old new event.Pump r → r ≡ reply.Moved → work new.core.tray.net < work old.core.tray.net
 pump_fewer old new r t m = lowers old new event.Pump r t (sound_pump old.core.head old.core.turns t.turn t.sound t.bound (next_seen old new event.Pump r t) t.event (t.reply ∙ m))
 
-pub drain_runs : (old new : BookView) (r : Reply) → IsAt old phase.Pausing → IsBetween new → Turned old new event.Drain r → Runs old new phase.Pausing
+pub drain_runs : (old new : BookView) (r : Reply) → IsInPhase old phase.Pausing → IsBetween new → Turned old new event.Drain r → Runs old new phase.Pausing
 drain_runs old new r at b t = at_phase old new event.Drain r phase.Pausing b t ((drain_gives old.core.tray.net t.turn t.first t.next t.event).phase ∙ at.phase)
 
-pub drain_fewer : (old new : BookView) (r : Reply) → IsAt old phase.Pausing → 0 < length old.core.tray.net.things → Turned old new event.Drain r → pause_to_go new.core.tray.net < pause_to_go old.core.tray.net
+pub drain_fewer : (old new : BookView) (r : Reply) → IsInPhase old phase.Pausing → 0 < length old.core.tray.net.things → Turned old new event.Drain r → pause_to_go new.core.tray.net < pause_to_go old.core.tray.net
 drain_fewer old new r at some t =
     let g : DrainGives old.core.tray.net t.turn = drain_gives old.core.tray.net t.turn t.first t.next t.event in
     let moved : t.turn.reply ≡ reply.Moved = g.filled some in
@@ -88,10 +88,10 @@ drain_fewer old new r at some t =
     lowers old new event.Drain r t (sound_still_drain old.core.head old.core.turns t.turn t.sound t.bound still (next_seen old new event.Drain r t) t.event moved) in
     omega (arith, less, same, order)
 
-pause_of : (old new : BookView) (r : Reply) → IsAt old phase.Pausing → (t : Turned old new event.PauseNext r) → PauseGives old.core.tray.net t.turn
+pause_of : (old new : BookView) (r : Reply) → IsInPhase old phase.Pausing → (t : Turned old new event.PauseNext r) → PauseGives old.core.tray.net t.turn
 pause_of old new r at t = pause_gives old.core.tray.net t.turn t.first t.next t.event at.phase
 
-pub paused_runs : (old new : BookView) (r : Reply) → IsAt old phase.Pausing → IsBetween new → Turned old new event.PauseNext r → r ≡ reply.Paused → Runs old new phase.Paused
+pub paused_runs : (old new : BookView) (r : Reply) → IsInPhase old phase.Pausing → IsBetween new → Turned old new event.PauseNext r → r ≡ reply.Paused → Runs old new phase.Paused
 paused_runs old new r at b t is = at_phase old new event.PauseNext r phase.Paused b t ((pause_of old new r at t).paused (t.reply ∙ is))
 
 -- what waits: nothing changed, and something is left
@@ -104,7 +104,7 @@ waiting_of : (r : Reply) → IsWaiting r → (n : ℕ) × (r ≡ reply.Waiting n
 waiting_of (reply.Waiting n) w = (n, refl)
 waiting_of _ w = absurd w
 
-pub pause_waits : (old new : BookView) (r : Reply) → IsAt old phase.Pausing → IsBetween new → Turned old new event.PauseNext r → IsWaiting r → Waits old new
+pub pause_waits : (old new : BookView) (r : Reply) → IsInPhase old phase.Pausing → IsBetween new → Turned old new event.PauseNext r → IsWaiting r → Waits old new
 pause_waits old new r at b t w =
     let of = waiting_of r w in
     let g = (pause_of old new r at t).waiting of.0 (t.reply ∙ of.1) in
@@ -120,7 +120,7 @@ pub record GoesOn (old new : BookView) : Type 0 where
   pub runs : Runs old new phase.Pausing
   pub fewer : pause_to_go new.core.tray.net < pause_to_go old.core.tray.net
 
-pub pause_goes_on : (old new : BookView) (r : Reply) → IsAt old phase.Pausing → IsBetween new → Turned old new event.PauseNext r → (IsWaiting r → ⊥) → r ≢ reply.Paused → GoesOn old new
+pub pause_goes_on : (old new : BookView) (r : Reply) → IsInPhase old phase.Pausing → IsBetween new → Turned old new event.PauseNext r → (IsWaiting r → ⊥) → r ≢ reply.Paused → GoesOn old new
 pause_goes_on old new r at b t no_wait no_pause = by_answer (pause_of old new r at t).answer
   where
     by_answer : (t.turn.reply ≡ reply.Next) ⊎ ((t.turn.reply ≡ reply.Paused) ⊎ ((n : ℕ) × (t.turn.reply ≡ reply.Waiting n))) → GoesOn old new
@@ -145,7 +145,7 @@ leads : (old new : BookView) (e : Event) (r a : Reply) (p : Phase) → IsBetween
 leads old new e r a p b t l = at_phase old new e r p b t l.phase
 
 -- the opening of a stack
-pub open_runs : (old one two new : BookView) (r s u : Reply) → IsAt old phase.Halted → IsBetween one → IsBetween two → IsBetween new → Turned old one event.Initialize r → (r ≢ reply.Refused refusal.InitRefused) → Turned one two event.RestartNext s → Turned two new event.RestartNext u → Runs old new phase.Running
+pub open_runs : (old one two new : BookView) (r s u : Reply) → IsInPhase old phase.Halted → IsBetween one → IsBetween two → IsBetween new → Turned old one event.Initialize r → (r ≢ reply.Refused refusal.InitRefused) → Turned one two event.RestartNext s → Turned two new event.RestartNext u → Runs old new phase.Running
 open_runs old one two new r s u at b1 b2 b3 t accepted t2 t3 =
     let g = initialize_either old.core.tray.net t.turn t.first t.next t.event at.phase in
     let first : Runs old one phase.Paused = at_phase old one event.Initialize r phase.Paused b1 t (by_answer g.answer g.done) in
@@ -163,7 +163,7 @@ pub record OpenReplies (r s u : Reply) : Type 0 where
   pub next : s ≡ reply.Next
   pub running : u ≡ reply.Running
 
-pub open_replies : (old one two new : BookView) (r s u : Reply) → IsAt old phase.Halted → IsBetween one → IsBetween two → Turned old one event.Initialize r → (r ≢ reply.Refused refusal.InitRefused) → Turned one two event.RestartNext s → Turned two new event.RestartNext u → OpenReplies r s u
+pub open_replies : (old one two new : BookView) (r s u : Reply) → IsInPhase old phase.Halted → IsBetween one → IsBetween two → Turned old one event.Initialize r → (r ≢ reply.Refused refusal.InitRefused) → Turned one two event.RestartNext s → Turned two new event.RestartNext u → OpenReplies r s u
 open_replies old one two new r s u at b1 b2 t accepted t2 t3 =
     let g = initialize_either old.core.tray.net t.turn t.first t.next t.event at.phase in
     let ok : t.turn.reply ≡ reply.Ok = by_answer g.answer in
@@ -177,21 +177,21 @@ open_replies old one two new r s u at b1 b2 t accepted t2 t3 =
     by_answer (inl is) = is
     by_answer (inr is) = absurd (accepted (sym t.reply ∙ is))
 
-pub begin_runs : (old new : BookView) (r : Reply) → IsAt old phase.Running → IsBetween new → Turned old new event.BeginPause r → Runs old new phase.Pausing
+pub begin_runs : (old new : BookView) (r : Reply) → IsInPhase old phase.Running → IsBetween new → Turned old new event.BeginPause r → Runs old new phase.Pausing
 begin_runs old new r at b t = leads old new event.BeginPause r reply.Ok phase.Pausing b t (begin_gives old.core.tray.net t.turn t.first t.next t.event at.phase)
 
-pub begin_told : (old new : BookView) (r : Reply) → IsAt old phase.Running → Turned old new event.BeginPause r → r ≡ reply.Ok
+pub begin_told : (old new : BookView) (r : Reply) → IsInPhase old phase.Running → Turned old new event.BeginPause r → r ≡ reply.Ok
 begin_told old new r at t = sym t.reply ∙ (begin_gives old.core.tray.net t.turn t.first t.next t.event at.phase).reply
 
-pub halt_runs : (old new : BookView) (r : Reply) → IsAt old phase.Paused → IsBetween new → Turned old new event.Halt r → Runs old new phase.Halted
+pub halt_runs : (old new : BookView) (r : Reply) → IsInPhase old phase.Paused → IsBetween new → Turned old new event.Halt r → Runs old new phase.Halted
 halt_runs old new r at b t = leads old new event.Halt r reply.Halted phase.Halted b t (halt_gives old.core.tray.net t.turn t.first t.next t.event at.phase)
 
 -- a run that starts in a phase and keeps it
-pub stays_at : (old new : BookView) (p : Phase) → IsAt old p → Runs old new old.core.tray.net.phase → Runs old new p
+pub stays_at : (old new : BookView) (p : Phase) → IsInPhase old p → Runs old new old.core.tray.net.phase → Runs old new p
 stays_at old new p at x = subst (Runs old new) at.phase x
 
 -- the ending of a stack
-pub end_runs : (a b c d e f : BookView) (r s : Reply) → IsAt a phase.Running → Runs a b a.core.tray.net.phase → IsBetween c → Turned b c event.BeginPause r → Runs c d phase.Paused → Runs d e d.core.tray.net.phase → IsBetween f → Turned e f event.Halt s → Runs a f phase.Halted
+pub end_runs : (a b c d e f : BookView) (r s : Reply) → IsInPhase a phase.Running → Runs a b a.core.tray.net.phase → IsBetween c → Turned b c event.BeginPause r → Runs c d phase.Paused → Runs d e d.core.tray.net.phase → IsBetween f → Turned e f event.Halt s → Runs a f phase.Halted
 end_runs a b c d e f r s at ab bc t cd de bf u =
     let first : Runs a b phase.Running = stays_at a b phase.Running at ab in
     let second : Runs b c phase.Pausing = begin_runs b c r first.now bc t in
@@ -207,7 +207,7 @@ may_first event.Drain m = tt
 may_first _ m = absurd m
 
 -- a call of a script keeps a running stack running
-pub call_runs : (old new : BookView) (e : Event) (r : Reply) → MayCall e → IsAt old phase.Running → IsBetween new → Turned old new e r → Runs old new phase.Running
+pub call_runs : (old new : BookView) (e : Event) (r : Reply) → MayCall e → IsInPhase old phase.Running → IsBetween new → Turned old new e r → Runs old new phase.Running
 call_runs old new (event.Send binding cancel frames) r m at b t = at_phase old new _ r phase.Running b t ((send_gives old.core.tray.net t.turn binding cancel frames t.first t.next t.event).phase ∙ at.phase)
 call_runs old new event.Transmit r m at b t = at_phase old new _ r phase.Running b t ((transmit_gives old.core.tray.net t.turn t.first t.next t.event).phase ∙ at.phase)
 call_runs old new event.Pump r m at b t = at_phase old new _ r phase.Running b t ((pump_gives old.core.tray.net t.turn t.first t.next t.event).phase ∙ at.phase)
@@ -215,7 +215,7 @@ call_runs old new event.Drain r m at b t = at_phase old new _ r phase.Running b 
 call_runs old new _ r m at b t = absurd m
 
 -- the same with its tail
-pub tail_runs : (old mid new : BookView) (e : Event) (r : Reply) → MayCall e → IsAt old phase.Running → IsBetween mid → Turned old mid e r → Runs mid new mid.core.tray.net.phase → Runs old new phase.Running
+pub tail_runs : (old mid new : BookView) (e : Event) (r : Reply) → MayCall e → IsInPhase old phase.Running → IsBetween mid → Turned old mid e r → Runs mid new mid.core.tray.net.phase → Runs old new phase.Running
 tail_runs old mid new e r m at b t x =
     let first : Runs old mid phase.Running = call_runs old mid e r m at b t in
     then_runs old mid new _ _ first (stays_at mid new phase.Running first.now x)

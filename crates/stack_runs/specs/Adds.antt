@@ -17,7 +17,7 @@ use Rattle.promise_rules.specs.declared.Ending.TheVariants as ending
 use Rattle.promise_rules.specs.Own.{opening_event, opening_after, ending_event, ending_after}
 
 -- turns of this kind were added, and the drivers did what their rows say
-pub record Adds (Kind : List Turn → Type 0) (old new : BookView) : Type 0 where
+pub record AddsTurns (Kind : List Turn → Type 0) (old new : BookView) : Type 0 where
   pub more : List Turn
   pub turns : new.core.turns ≡ old.core.turns ++ more
   pub drivers : DriversDid old new (rows_of more)

@@ -20,14 +20,14 @@ pub record IsBetween (b : BookView) : Type 0 where
   pub idle : b.core.tray.rows ≡ []
 
 -- between two turns, in this phase
-pub record IsAt (b : BookView) (at : Phase) : Type 0 where
+pub record IsInPhase (b : BookView) (at : Phase) : Type 0 where
   pub between : IsBetween b
   pub phase : b.core.tray.net.phase ≡ at
 
 -- after some turns: the head stays, and the stack is in this phase
 pub record Runs (old new : BookView) (at : Phase) : Type 0 where
   pub head : new.core.head ≡ old.core.head
-  pub now : IsAt new at
+  pub now : IsInPhase new at
 
 -- a turn of this event was answered so, and the state follows it
 pub record Turned (old new : BookView) (e : Event) (answer : Reply) : Type 0 where

@@ -12,8 +12,8 @@ ghost use Rattle.stack_book.specs.Stands.{Same};
 ghost use Rattle.stack_book.specs.Turns.{AddsTurn};
 ghost use Rattle.promise_rules.specs.declared.Opening.TheVariants.{Initialising, Opened};
 ghost use Rattle.promise_rules.specs.declared.Ending.TheVariants as ending;
-ghost use Rattle.stack_runs.specs.Adds.{Adds, IsOne, ArePumps, IsCall, OpensTo, EndsTo, is_refused, pump_reply, pause_leads};
-ghost use Rattle.stack_runs.specs.Runs.{IsBetween, IsAt, Runs, MayCall, Turned, IsWaiting, pause_to_go};
+ghost use Rattle.stack_runs.specs.Adds.{AddsTurns, IsOne, ArePumps, IsCall, OpensTo, EndsTo, is_refused, pump_reply, pause_leads};
+ghost use Rattle.stack_runs.specs.Runs.{IsBetween, IsInPhase, Runs, MayCall, Turned, IsWaiting, pause_to_go};
 
 use journal_types::{Asked, Event, Reply};
 use ndis_base::{LaneNo, OutOfMemory, Phase, Who};
@@ -40,10 +40,10 @@ fn ask(book: &mut Book, alloc: Global, who: Who, event: Event) -> Result<Reply, 
 
 /// The opening: the stack is initialised and restarted until it runs.
 pub fn open_stack(book: &mut Book, alloc: Global) -> Result<(), OutOfMemory>
-    requires halted { IsAt (⟦<Book as Shown>⟧.shown book.old) Phase.Halted }
+    requires halted { IsInPhase (⟦<Book as Shown>⟧.shown book.old) Phase.Halted }
     ensures between { IsBetween (⟦<Book as Shown>⟧.shown book.new) }
     ensures running { OnOk result (Runs (⟦<Book as Shown>⟧.shown book.old) (⟦<Book as Shown>⟧.shown book.new) Phase.Running) }
-    ensures added { OnOk result (Adds (OpensTo Initialising Opened) (⟦<Book as Shown>⟧.shown book.old) (⟦<Book as Shown>⟧.shown book.new)) }
+    ensures added { OnOk result (AddsTurns (OpensTo Initialising Opened) (⟦<Book as Shown>⟧.shown book.old) (⟦<Book as Shown>⟧.shown book.new)) }
 {
     ask(book, alloc, Who::Own, Event::Initialize)?;
     ask(book, alloc, Who::Own, Event::RestartNext)?;
@@ -85,7 +85,7 @@ fn pump_once(book: &mut Book, alloc: Global, who: Who) -> Result<bool, OutOfMemo
     ensures between { IsBetween (⟦<Book as Shown>⟧.shown book.new) }
     ensures runs { OnOk result (Runs (⟦<Book as Shown>⟧.shown book.old) (⟦<Book as Shown>⟧.shown book.new) (⟦<Book as Shown>⟧.shown book.old).core.tray.net.phase) }
     ensures fewer { IfOk result (λ moved. moved ≡ true → work (⟦<Book as Shown>⟧.shown book.new).core.tray.net < work (⟦<Book as Shown>⟧.shown book.old).core.tray.net) }
-    ensures added { IfOk result (λ moved. Adds (IsOne who Event.Pump (pump_reply moved)) (⟦<Book as Shown>⟧.shown book.old) (⟦<Book as Shown>⟧.shown book.new)) }
+    ensures added { IfOk result (λ moved. AddsTurns (IsOne who Event.Pump (pump_reply moved)) (⟦<Book as Shown>⟧.shown book.old) (⟦<Book as Shown>⟧.shown book.new)) }
 {
     let reply = ask(book, alloc, who, Event::Pump)?;
     Ok(is_moved(&reply))
@@ -96,7 +96,7 @@ fn pump_all(book: &mut Book, alloc: Global, who: Who) -> Result<(), OutOfMemory>
     requires between { IsBetween (⟦<Book as Shown>⟧.shown book.old) }
     ensures between { IsBetween (⟦<Book as Shown>⟧.shown book.new) }
     ensures runs { OnOk result (Runs (⟦<Book as Shown>⟧.shown book.old) (⟦<Book as Shown>⟧.shown book.new) (⟦<Book as Shown>⟧.shown book.old).core.tray.net.phase) }
-    ensures added { OnOk result (Adds (ArePumps who) (⟦<Book as Shown>⟧.shown book.old) (⟦<Book as Shown>⟧.shown book.new)) }
+    ensures added { OnOk result (AddsTurns (ArePumps who) (⟦<Book as Shown>⟧.shown book.old) (⟦<Book as Shown>⟧.shown book.new)) }
 {
     while pump_once(book, alloc, who)? {}
     Ok(())
@@ -111,12 +111,12 @@ pub fn run_call(
     event: Event,
     pump: bool,
 ) -> Result<(), OutOfMemory>
-    requires running { IsAt (⟦<Book as Shown>⟧.shown book.old) Phase.Running }
+    requires running { IsInPhase (⟦<Book as Shown>⟧.shown book.old) Phase.Running }
     requires call { MayCall event }
     requires may { may_ask (⟦<Book as Shown>⟧.shown book.old).core.head event ≡ true }
     ensures between { IsBetween (⟦<Book as Shown>⟧.shown book.new) }
     ensures running { OnOk result (Runs (⟦<Book as Shown>⟧.shown book.old) (⟦<Book as Shown>⟧.shown book.new) Phase.Running) }
-    ensures added { OnOk result (Adds (IsCall lane event pump) (⟦<Book as Shown>⟧.shown book.old) (⟦<Book as Shown>⟧.shown book.new)) }
+    ensures added { OnOk result (AddsTurns (IsCall lane event pump) (⟦<Book as Shown>⟧.shown book.old) (⟦<Book as Shown>⟧.shown book.new)) }
 {
     let reply = ask(book, alloc, Who::Call(lane), event)?;
     if !has_tail(pump, &reply) {
@@ -128,12 +128,12 @@ pub fn run_call(
 
 /// One drain of a Pausing stack that waits: a list moves.
 fn drain_once(book: &mut Book, alloc: Global) -> Result<(), OutOfMemory>
-    requires pausing { IsAt (⟦<Book as Shown>⟧.shown book.old) Phase.Pausing }
+    requires pausing { IsInPhase (⟦<Book as Shown>⟧.shown book.old) Phase.Pausing }
     requires some { 0 < length (⟦<Book as Shown>⟧.shown book.old).core.tray.net.things }
     ensures between { IsBetween (⟦<Book as Shown>⟧.shown book.new) }
     ensures pausing { OnOk result (Runs (⟦<Book as Shown>⟧.shown book.old) (⟦<Book as Shown>⟧.shown book.new) Phase.Pausing) }
     ensures fewer { OnOk result (pause_to_go (⟦<Book as Shown>⟧.shown book.new).core.tray.net < pause_to_go (⟦<Book as Shown>⟧.shown book.old).core.tray.net) }
-    ensures added { OnOk result (Adds (EndsTo ending.Draining ending.Pausing) (⟦<Book as Shown>⟧.shown book.old) (⟦<Book as Shown>⟧.shown book.new)) }
+    ensures added { OnOk result (AddsTurns (EndsTo ending.Draining ending.Pausing) (⟦<Book as Shown>⟧.shown book.old) (⟦<Book as Shown>⟧.shown book.new)) }
 {
     ask(book, alloc, Who::Own, Event::Drain)?;
     Ok(())
@@ -141,12 +141,12 @@ fn drain_once(book: &mut Book, alloc: Global) -> Result<(), OutOfMemory>
 
 /// One step of a pause, and one drain where it waits: whether the stack is paused.
 fn pause_once(book: &mut Book, alloc: Global) -> Result<bool, OutOfMemory>
-    requires pausing { IsAt (⟦<Book as Shown>⟧.shown book.old) Phase.Pausing }
+    requires pausing { IsInPhase (⟦<Book as Shown>⟧.shown book.old) Phase.Pausing }
     ensures between { IsBetween (⟦<Book as Shown>⟧.shown book.new) }
     ensures paused { IfOk result (λ done. done ≡ true → Runs (⟦<Book as Shown>⟧.shown book.old) (⟦<Book as Shown>⟧.shown book.new) Phase.Paused) }
     ensures pausing { IfOk result (λ done. done ≡ false → Runs (⟦<Book as Shown>⟧.shown book.old) (⟦<Book as Shown>⟧.shown book.new) Phase.Pausing) }
     ensures fewer { IfOk result (λ done. done ≡ false → pause_to_go (⟦<Book as Shown>⟧.shown book.new).core.tray.net < pause_to_go (⟦<Book as Shown>⟧.shown book.old).core.tray.net) }
-    ensures added { IfOk result (λ done. Adds (EndsTo ending.Pausing (pause_leads done)) (⟦<Book as Shown>⟧.shown book.old) (⟦<Book as Shown>⟧.shown book.new)) }
+    ensures added { IfOk result (λ done. AddsTurns (EndsTo ending.Pausing (pause_leads done)) (⟦<Book as Shown>⟧.shown book.old) (⟦<Book as Shown>⟧.shown book.new)) }
 {
     let reply = ask(book, alloc, Who::Own, Event::PauseNext)?;
     if is_waiting(&reply) {
@@ -158,10 +158,10 @@ fn pause_once(book: &mut Book, alloc: Global) -> Result<bool, OutOfMemory>
 
 /// Pauses a Pausing stack to its end: after each Waiting one drain.
 fn pause_all(book: &mut Book, alloc: Global) -> Result<(), OutOfMemory>
-    requires pausing { IsAt (⟦<Book as Shown>⟧.shown book.old) Phase.Pausing }
+    requires pausing { IsInPhase (⟦<Book as Shown>⟧.shown book.old) Phase.Pausing }
     ensures between { IsBetween (⟦<Book as Shown>⟧.shown book.new) }
     ensures paused { OnOk result (Runs (⟦<Book as Shown>⟧.shown book.old) (⟦<Book as Shown>⟧.shown book.new) Phase.Paused) }
-    ensures added { OnOk result (Adds (EndsTo ending.Pausing ending.PumpingLast) (⟦<Book as Shown>⟧.shown book.old) (⟦<Book as Shown>⟧.shown book.new)) }
+    ensures added { OnOk result (AddsTurns (EndsTo ending.Pausing ending.PumpingLast) (⟦<Book as Shown>⟧.shown book.old) (⟦<Book as Shown>⟧.shown book.new)) }
 {
     while !pause_once(book, alloc)? {}
     Ok(())
@@ -169,10 +169,10 @@ fn pause_all(book: &mut Book, alloc: Global) -> Result<(), OutOfMemory>
 
 /// The ending of a stack that runs: it is pumped until nothing moves, paused, and halted.
 pub fn end_stack(book: &mut Book, alloc: Global) -> Result<(), OutOfMemory>
-    requires running { IsAt (⟦<Book as Shown>⟧.shown book.old) Phase.Running }
+    requires running { IsInPhase (⟦<Book as Shown>⟧.shown book.old) Phase.Running }
     ensures between { IsBetween (⟦<Book as Shown>⟧.shown book.new) }
     ensures halted { OnOk result (Runs (⟦<Book as Shown>⟧.shown book.old) (⟦<Book as Shown>⟧.shown book.new) Phase.Halted) }
-    ensures added { OnOk result (Adds (EndsTo ending.Pumping ending.Ended) (⟦<Book as Shown>⟧.shown book.old) (⟦<Book as Shown>⟧.shown book.new)) }
+    ensures added { OnOk result (AddsTurns (EndsTo ending.Pumping ending.Ended) (⟦<Book as Shown>⟧.shown book.old) (⟦<Book as Shown>⟧.shown book.new)) }
 {
     pump_all(book, alloc, Who::Own)?;
     ask(book, alloc, Who::Own, Event::BeginPause)?;

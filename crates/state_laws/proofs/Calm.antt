@@ -29,7 +29,8 @@ use Rattle.stack_rules.specs.declared.Attached.{Attached}
 use Rattle.stack_rules.specs.declared.Message.{Message}
 use Rattle.stack_rules.specs.declared.Choice.{Choice}
 use Rattle.stack_rules.specs.Tests.{phase_is_running, is_running, is_hold, is_virtual, is_retain, is_halted, same_frames, same_module}
-use Rattle.stack_rules.specs.Net.{Net, Modules, attached, list_of, lists, kind_of_binding, binding_numbers}
+use Rattle.stack_rules.specs.Heads.{kind_of_binding, binding_numbers}
+use Rattle.stack_rules.specs.Net.{Net, Modules, attached, list_of, lists}
 use Rattle.stack_rules.specs.Places.{position, is_full, ready_lists, is_kept_by}
 use Rattle.stack_rules.specs.Targets.{onward, homeward, homeward_by, turned_back, has_receive}
 use Rattle.stack_rules.specs.Outcome.{Outcome}
@@ -38,11 +39,11 @@ use Rattle.stack_rules.specs.Sends.{ring_is_full, at_filter, down_rows, loops, l
 use Rattle.stack_rules.specs.Dones.{released, released_list, homeward_rows}
 use Rattle.stack_rules.specs.Deliveries.{delivered, echoes, settled, last_of, takers, delivery_rows}
 use Rattle.stack_rules.specs.Receives.{up_at_filter, up_rows, give_back_of, lent_at, lent_handled, lent_up, lent_delivery}
-use Rattle.stack_rules.specs.Cancels.{cancel_outcome, cancel_rows_at, cancelled_at, aborted, queues, holds_lists}
+use Rattle.stack_rules.specs.Cancels.{cancel_outcome, cancel_rows_at, cancelled_at, aborted, queues, is_hold_filter}
 use Rattle.stack_rules.specs.Drains.{returned_by, returns_all, passed_by, passes_all, empties, empties_ring, first_rows, drain_rows, drained}
 use Rattle.stack_rules.specs.Pumps.{moved_rows}
 use Rattle.stack_rules.specs.Statuses.{seen_by_all, status_rows}
-use Rattle.stack_rules.specs.Crosses.{first_uncrossed, take_of, done_of, take_up_of, grows_too_long, mux_binding_for}
+use Rattle.stack_rules.specs.Crosses.{first_uncrossed, take_of, done_of, take_up_of, is_too_long_tagged, mux_binding_for}
 use Rattle.stack_rules.specs.Sound.{outcome}
 use Rattle.state_laws.proofs.Rows.{by_test, is_calm, AreCalm, calm-append, calm-map, calm-flat_map}
 
@@ -208,7 +209,7 @@ calm_returns net b =
 
 calm_passes : (net : Net) (f : ℕ) → AreCalm (passes_all net f)
 calm_passes net f =
-    by_test AreCalm (holds_lists net.modules f) _ _
+    by_test AreCalm (is_hold_filter net.modules f) _ _
     (λ _. calm-map (passed_by net f) (ready_lists net (Filter f)) (λ l. calm_onward net.modules l.list l.direction (position net.modules.order (Filter f))))
     (λ _. tt)
 
@@ -302,7 +303,7 @@ calm_event net event.Transmit c p = calm_transmit net (first_in_ring net)
 calm_event net event.CrossTake c p = calm_take net (first_uncrossed net)
 calm_event net (event.CrossPut stack message vlan frames) c p =
     by_test Calm (phase_is_running net.phase) _ _
-    (λ _. by_test Calm (list_any (grows_too_long net.head) frames) _ _ (λ _. tt)
+    (λ _. by_test Calm (list_any (is_too_long_tagged net.head) frames) _ _ (λ _. tt)
     (λ _. by_test Calm (is_full net (Binding (mux_binding_for net.head stack))) _ _ (λ _. tt) (λ _. (refl, (refl, (refl, tt))))))
     (λ _. tt)
 calm_event net (event.CrossDone message status) c p = calm_done net status _

@@ -13,7 +13,7 @@ use Rattle.stack_rules.specs.Net.{Net}
 use Rattle.stack_rules.specs.Places.{agenda_first, state_of}
 use Rattle.stack_rules.specs.Outcome.{Outcome}
 use Rattle.stack_rules.specs.Drains.{drain_rows, drained}
-use Rattle.stack_rules.specs.Pumps.{moved_rows, thing_rows, request_pump, pump_of, pump_moves}
+use Rattle.stack_rules.specs.Pumps.{moved_rows, thing_rows, request_pump, pump_of, is_pump_moving}
 use Rattle.stack_rules.specs.Requests.{Giving, given_rows_by, giving_rows, next_giving}
 use Rattle.stack_rules.specs.Statuses.{status_rows}
 use Rattle.stack_rules.specs.Sound.{outcome}
@@ -69,5 +69,5 @@ quiet_event net (event.Ask binding kind code value) c p =
     by_test Quiet (is_unbound (state_of net (Binding binding))) _ _ (λ _. tt) (λ _. (refl, tt))
 quiet_event net event.Pump c p = quiet_pump net c.keeps (agenda_first net)
 quiet_event net event.Drain c p =
-    by_test Quiet (pump_moves net) _ _ (λ _. quiet_pump net c.keeps (agenda_first net)) (λ _. calm_quiet (drained (drain_rows net)).rows (calm_drained net))
+    by_test Quiet (is_pump_moving net) _ _ (λ _. quiet_pump net c.keeps (agenda_first net)) (λ _. calm_quiet (drained (drain_rows net)).rows (calm_drained net))
 quiet_event net e c p = calm_quiet (outcome net e c).rows (calm_event net e c refl)

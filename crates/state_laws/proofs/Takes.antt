@@ -5,10 +5,10 @@ use Rattle.std.proofs.lemmas.List.{set_at, length_push, length-replicate}
 use Rattle.ndis_base.specs.declared.ModuleId.TheVariants.{Miniport, Filter}
 use Rattle.ndis_base.specs.declared.ModuleState.{ModuleState}
 use Rattle.stack_rules.specs.declared.Attached.{Attached}
-use Rattle.stack_rules.specs.Net.{Net, Modules, after, after_rows, attached, with_state, is_detached, filter_after}
+use Rattle.stack_rules.specs.Net.{Net, Modules, after, after_rows, attached, with_state, is_detached, filter_after, handlers_of}
 use Rattle.stack_rules.specs.Places.{state_in}
 use Rattle.stack_rules.specs.Rewires.{is_in}
-use Rattle.stack_rules.specs.Targets.{has_receive, receive_pair}
+use Rattle.stack_rules.specs.Targets.{has_receive}
 use Rattle.stack_rules.specs.Pauses.{binding_ids, state_row, state_rows}
 use Rattle.rule_basics.proofs.Finds.{find-map}
 use Rattle.state_laws.specs.Shape.{FiltersAre, StatesAre, IsDistinct, AllIn}
@@ -216,13 +216,13 @@ pub AllIn-with_state : (order : List ℕ) (f : ℕ) (s : ModuleState) (entries :
 AllIn-with_state order f s [] h = tt
 AllIn-with_state order f s (a ∷ entries) h = (ap (λ n. is_in n order) (same_number f s a) ∙ h.0, AllIn-with_state order f s entries h.1)
 
-receives_same : (g f : ℕ) (s : ModuleState) (entries : List Attached) → receive_pair (attached g (map (with_state f s) entries)) ≡ receive_pair (attached g entries)
-receives_same g f s entries = ap receive_pair (attached-with_state g f s entries) ∙ at (attached g entries)
+receives_same : (g f : ℕ) (s : ModuleState) (entries : List Attached) → (handlers_of (attached g (map (with_state f s) entries))).receive ≡ (handlers_of (attached g entries)).receive
+receives_same g f s entries = ap (λ o. (handlers_of o).receive) (attached-with_state g f s entries) ∙ at (attached g entries)
   where
-    stays : (a : Attached) → receive_pair (Some (with_state f s a)) ≡ receive_pair (Some a)
-    stays a = elim (a.filter == f) as (λ b. receive_pair (Some (cond b (record a { state = s }) a)) ≡ receive_pair (Some a)) [ true ↦ refl | false ↦ refl ]
+    stays : (a : Attached) → (handlers_of (Some (with_state f s a))).receive ≡ (handlers_of (Some a)).receive
+    stays a = elim (a.filter == f) as (λ b. (handlers_of (Some (cond b (record a { state = s }) a))).receive ≡ (handlers_of (Some a)).receive) [ true ↦ refl | false ↦ refl ]
 
-    at : (o : Option Attached) → receive_pair (option_map (with_state f s) o) ≡ receive_pair o
+    at : (o : Option Attached) → (handlers_of (option_map (with_state f s) o)).receive ≡ (handlers_of o).receive
     at None = refl
     at (Some a) = stays a
 

@@ -10,11 +10,11 @@ use Rattle.turn_lock.specs.History.{entry, ByStep, Runs, entries_by}
 use Rattle.turn_lock.specs.Orderly.{ended_seat}
 use Rattle.turn_lock.specs.Account.{Account, Makes, Closes, first_account, after_split, newcomer_account, joined}
 use Rattle.turn_lock_tests.specs.declared.counter.Counter.{Counter}
-use Rattle.turn_lock_tests.specs.Counting.{Counts, amount, added, Adds}
+use Rattle.turn_lock_tests.specs.Counting.{Counts, amount, added, AddsCount}
 
 -- a counter's entry stands by its step
-abbrev pub Stands : Counter → Entry ℕ ℕ → Counter → Type 0
-Stands = ByStep (λ (c : Counter). c.limit) Counts (λ (c : Counter). c.phase)
+abbrev pub StandsByStep : Counter → Entry ℕ ℕ → Counter → Type 0
+StandsByStep = ByStep (λ (c : Counter). c.limit) Counts (λ (c : Counter). c.phase)
 
 added-append : (xs ys : List (Entry ℕ ℕ)) → added (xs ++ ys) ≡ added xs + added ys
 added-append [] ys = omega arith
@@ -28,7 +28,7 @@ counted : (a z : Counter) (more : ℕ) (reply : Result ℕ OutOfMemory) → Coun
 counted a z more (Ok count) h = h.1 ∙ h.0
 counted a z more (Err fault) h = let same : z.count ≡ a.count = ap (λ (c : Counter). c.count) h in omega (arith, same)
 
-runs_count : (a : Counter) (h : List (Entry ℕ ℕ)) (z : Counter) → Runs Stands a h z → z.count ≡ a.count + added h
+runs_count : (a : Counter) (h : List (Entry ℕ ℕ)) (z : Counter) → Runs StandsByStep a h z → z.count ≡ a.count + added h
 runs_count a [] z is = let same : a.count ≡ z.count = ap (λ (c : Counter). c.count) is in omega (arith, same)
 runs_count a (e ∷ es) z h = let here = counted a h.0 e.call e.reply h.1.stepped in let ih = runs_count h.0 es z h.2 in omega (arith, here, ih)
 
@@ -53,7 +53,7 @@ two_add m k (e ∷ es) apart each =
     go false false ih which = absurd (⊎_elim (λ h. let bad = h.0 in cc) (λ h. let bad = h.1 in cc) which)
 
 -- a closed counter, where one seat was joined into the closing one
-total : (opening z : Counter) (w : Account ℕ ℕ) (k : ℕ) (calls : List (Entry ℕ ℕ)) → w.ended ≡ ended_seat k calls ∷ [] → Closes Stands opening w z → z.count ≡ opening.count + (added w.own + added calls)
+total : (opening z : Counter) (w : Account ℕ ℕ) (k : ℕ) (calls : List (Entry ℕ ℕ)) → w.ended ≡ ended_seat k calls ∷ [] → Closes StandsByStep opening w z → z.count ≡ opening.count + (added w.own + added calls)
 total opening z w k calls ended c =
     let each : All (λ (e : Entry ℕ ℕ). Contains (w.number ∷ k ∷ []) e.by) c.history =
     subst (λ (es : List (Ended ℕ ℕ)). All (λ (e : Entry ℕ ℕ). Contains (w.number ∷ map (λ (f : Ended ℕ ℕ). f.number) es) e.by) c.history) ended c.each in
@@ -67,7 +67,7 @@ total opening z w k calls ended c =
     let others : added (entries_by k c.history) ≡ added calls = ap added theirs in
     omega (arith, counts, parts, mine, others)
 
-pub adds : (opening : Counter) (more : ℕ) (reply : Result ℕ OutOfMemory) (old new : Account ℕ ℕ) → Makes Stands opening more reply old new → Adds more (is_ok reply) old new
+pub adds : (opening : Counter) (more : ℕ) (reply : Result ℕ OutOfMemory) (old new : Account ℕ ℕ) → Makes StandsByStep opening more reply old new → AddsCount more (is_ok reply) old new
 adds opening more reply old new t = record {
   number = ap (λ (a : Account ℕ ℕ). a.number) t.same;
   parts = ap (λ (a : Account ℕ ℕ). a.parts) t.same;
@@ -77,7 +77,7 @@ adds opening more reply old new t = record {
 
 -- two seats, a turn each, and the count at the close
 pub both_added : (opening z : Counter) (s0 s1 t1 s2 t2 w : Account ℕ ℕ) (n first second : ℕ) → s0 ≡ first_account 2 → s1 ≡ after_split s0 n → t1 ≡ newcomer_account s0 n
-    → Adds first true s1 s2 → Adds second true t1 t2 → w ≡ joined s2 t2 → Closes Stands opening w z → z.count ≡ opening.count + (first + second)
+    → AddsCount first true s1 s2 → AddsCount second true t1 t2 → w ≡ joined s2 t2 → Closes StandsByStep opening w z → z.count ≡ opening.count + (first + second)
 both_added opening z s0 s1 t1 s2 t2 w n first second new old comer one two both closes =
     let own0 : added s1.own ≡ 0 = ap (λ (a : Account ℕ ℕ). added a.own) old ∙ ap (λ (a : Account ℕ ℕ). added a.own) new in
     let own1 : added t1.own ≡ 0 = ap (λ (a : Account ℕ ℕ). added a.own) comer in

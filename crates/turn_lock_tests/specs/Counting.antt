@@ -24,7 +24,7 @@ added [] = 0
 added (e ∷ es) = amount e.call e.reply + added es
 
 -- one turn of the seat: where it is done, it adds this much
-pub record Adds (more : ℕ) (done : Bool) (old new : Account ℕ ℕ) : Type 0 where
+pub record AddsCount (more : ℕ) (done : Bool) (old new : Account ℕ ℕ) : Type 0 where
   pub number : new.number ≡ old.number
   pub parts : new.parts ≡ old.parts
   pub ended : new.ended ≡ old.ended

@@ -1,7 +1,7 @@
 // Two threads that take turns.
 ghost use Rattle.std.specs.Prelude.{◌≡◌, ◌+◌, ◌≤◌, true, [], IfSome};
 ghost use Rattle.turn_lock.specs.Account.{IsOf, account_of, seats_of, opening_of};
-ghost use Rattle.turn_lock_tests.specs.Counting.{Adds, IsShared};
+ghost use Rattle.turn_lock_tests.specs.Counting.{AddsCount, IsShared};
 
 use crate::counter::Counter;
 use ndis_base::Phase;
@@ -50,11 +50,11 @@ fn add_both<R: Threads + Wait + Sync>(
         rt,
         || -> (Seat<Counter>, bool)
             requires { IsOf shared.now seat × (first ≤ (opening_of shared.now).limit) }
-            ensures { IsOf shared.entry.now result.0 × Adds first result.1 (account_of seat) (account_of result.0) }
+            ensures { IsOf shared.entry.now result.0 × AddsCount first result.1 (account_of seat) (account_of result.0) }
         { add(rt, shared, seat, first) },
         || -> (Seat<Counter>, bool)
             requires { IsOf shared.now other × (second ≤ (opening_of shared.now).limit) }
-            ensures { IsOf shared.entry.now result.0 × Adds second result.1 (account_of other) (account_of result.0) }
+            ensures { IsOf shared.entry.now result.0 × AddsCount second result.1 (account_of other) (account_of result.0) }
         { add(rt, shared, other, second) },
     );
     lock.join(&mut seat, other);
@@ -75,7 +75,7 @@ fn add<R: Wait>(
     requires lock { IsOf lock.now seat }
     requires fits { more ≤ (opening_of lock.now).limit }
     ensures lock { IsOf lock.now result.0 }
-    ensures adds { Adds more result.1 (account_of seat) (account_of result.0) }
+    ensures adds { AddsCount more result.1 (account_of seat) (account_of result.0) }
 {
     let reply = lock.turn(rt, &mut seat, more);
     (seat, reply.is_ok())

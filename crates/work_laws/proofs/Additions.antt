@@ -12,7 +12,7 @@ use Rattle.rule_basics.specs.Numbers.{IsNumbered}
 use Rattle.home_laws.proofs.Standing.{lists_stand}
 use Rattle.work_laws.specs.Bounds.{send_room, receive_room, is_send, is_indication, is_status, is_ask, is_pause, is_take, EachAdds}
 use Rattle.work_laws.proofs.Lends.{lend_adds}
-use Rattle.work_laws.proofs.Adds.{Adds, send_adds, put_adds, indicate_adds, put_up_adds, status_adds, ask_adds, take_adds, begin_adds, pause_adds}
+use Rattle.work_laws.proofs.Adds.{AddsAtMost, send_adds, put_adds, indicate_adds, put_up_adds, status_adds, ask_adds, take_adds, begin_adds, pause_adds}
 
 abbrev EventAdds : (Event → Bool) → (Net → ℕ) → Type 0
 EventAdds test room =
@@ -23,8 +23,8 @@ each_adds : (test : Event → Bool) (room : Net → ℕ) → EventAdds test room
 each_adds test room adds head turns turn s n q =
     adds (seen head turns) turn.event turn.reply turn.rows n.choice (lists_stand head turns s).numbered q n.rows
 
-by : (net : Net) (k : ℕ) (rows others : List Row) → rows ≡ others → Adds net k others → Adds net k rows
-by net k rows others e h = subst (Adds net k) (sym e) h
+by : (net : Net) (k : ℕ) (rows others : List Row) → rows ≡ others → AddsAtMost net k others → AddsAtMost net k rows
+by net k rows others e h = subst (AddsAtMost net k) (sym e) h
 
 sends : EventAdds is_send send_room
 sends net (event.Send binding cancel frames) reply rows choice h q e = by net (send_room net) rows _ e (send_adds net binding cancel frames h)

@@ -31,7 +31,8 @@ use Rattle.ndis_base.specs.declared.ModuleState.TheVariants as state
 use Rattle.stack_rules.specs.declared.Stand.{Stand}
 use Rattle.stack_rules.specs.declared.Stand.TheVariants as stand
 use Rattle.stack_rules.specs.Tests.{is_echo, is_down, is_running, is_halted, is_unbound, phase_is_running, phase_is_pausing}
-use Rattle.stack_rules.specs.Net.{Net, Modules, after, after_rows, request_of, modules_after, taken_by, is_status, without_status, kind_of_binding, binding_numbers}
+use Rattle.stack_rules.specs.Heads.{kind_of_binding, binding_numbers}
+use Rattle.stack_rules.specs.Net.{Net, Modules, after, after_rows, request_of, modules_after, taken_by, is_status, without_status}
 use Rattle.stack_rules.specs.Places.{has_clone, is_full, state_of, outstanding, position, position_of_target, is_crossed}
 use Rattle.stack_rules.specs.Targets.{next_down, next_up, next_status}
 use Rattle.stack_rules.specs.Outcome.{Outcome, root, list_no, config_no, status_no, oid_no, cross_no}
@@ -41,7 +42,7 @@ use Rattle.stack_rules.specs.Sends.{send_outcome}
 use Rattle.stack_rules.specs.Receives.{indicated, indicate_outcome}
 use Rattle.stack_rules.specs.Statuses.{status_outcome}
 use Rattle.stack_rules.specs.Requests.{ask_outcome}
-use Rattle.stack_rules.specs.Crosses.{grows_too_long, mux_binding_for, put_outcome, put_up_outcome, take_of, first_uncrossed, take_outcome}
+use Rattle.stack_rules.specs.Crosses.{is_too_long_tagged, mux_binding_for, put_outcome, put_up_outcome, take_of, first_uncrossed, take_outcome}
 use Rattle.stack_rules.specs.Pauses.{state_rows, state_row, binding_ids, begin_outcome, paused_rows, pause_outcome, first_unpaused, floors}
 use Rattle.stack_rules.specs.Work.{bottom, echo_count, up_work, kept_work, given_position, holder_position, request_work, list_work, work}
 use Rattle.std.specs.List.{list_any}
@@ -55,18 +56,18 @@ use Rattle.work_laws.proofs.Clones.{clones_rows}
 use Rattle.work_laws.proofs.Ways.{down_least, up_near, status_near}
 
 -- the rows add at most so much
-abbrev pub Adds : Net → ℕ → List Row → Type 0
-Adds net k rows = work (after_rows net rows) ≤ work net + k
+abbrev pub AddsAtMost : Net → ℕ → List Row → Type 0
+AddsAtMost net k rows = work (after_rows net rows) ≤ work net + k
 
 abbrev pub OutcomeAdds : Net → ℕ → Outcome → Type 0
-OutcomeAdds net k o = Adds net k o.rows
+OutcomeAdds net k o = AddsAtMost net k o.rows
 
-pub adds_none : (net : Net) (k : ℕ) → Adds net k []
+pub adds_none : (net : Net) (k : ℕ) → AddsAtMost net k []
 adds_none net k = omega arith
 
 -- a list is issued and goes on
 pub issued_adds : (net : Net) (list : ListNo) (owner : ModuleId) (config : ConfigNo) (direction : Direction) (cancel : Option ℕ) (origin : Origin) (frames : List (List ℕ)) (way : PassWay) (to : Target) → IsNumbered net → list.0 ≡ net.next.list →
-    Adds net (passed_work net way to) (row.Issue list owner config direction cancel origin frames ∷ row.Pass list way to ∷ [])
+    AddsAtMost net (passed_work net way to) (row.Issue list owner config direction cancel origin frames ∷ row.Pass list way to ∷ [])
 issued_adds net list owner config direction cancel origin frames way to h e =
     let rows : List Row = row.Issue list owner config direction cancel origin frames ∷ row.Pass list way to ∷ [] in
     let next : Net = after net (row.Issue list owner config direction cancel origin frames) in
@@ -87,17 +88,17 @@ up_room net i a =
     omega (arith, near, whole)
 
 pub root_adds : (net : Net) (owner : ModuleId) (direction : Direction) (cancel : Option ℕ) (frames : List (List ℕ)) (way : PassWay) (to : Target) → IsNumbered net →
-    Adds net (passed_work net way to) (root net net.next.list owner direction cancel frames ∷ row.Pass (list_no net.next.list) way to ∷ [])
+    AddsAtMost net (passed_work net way to) (root net net.next.list owner direction cancel frames ∷ row.Pass (list_no net.next.list) way to ∷ [])
 root_adds net owner direction cancel frames way to h = issued_adds net (list_no net.next.list) owner (config_no net.modules.config) direction cancel origin.Root frames way to h refl
 
 down_adds : (net : Net) (owner : ModuleId) (cancel : Option ℕ) (frames : List (List ℕ)) → IsNumbered net →
-    Adds net (send_room net) (root net net.next.list owner direction.Down cancel frames ∷ row.Pass (list_no net.next.list) way.Down (next_down net.modules 0) ∷ [])
+    AddsAtMost net (send_room net) (root net net.next.list owner direction.Down cancel frames ∷ row.Pass (list_no net.next.list) way.Down (next_down net.modules 0) ∷ [])
 down_adds net owner cancel frames h =
     let most = root_adds net owner direction.Down cancel frames way.Down (next_down net.modules 0) h in
     let room = down_room net 0 in
     omega (arith, most, room)
 
-indicated_adds : (net : Net) (frames : List (List ℕ)) → IsNumbered net → Adds net (receive_room net) (indicated net frames)
+indicated_adds : (net : Net) (frames : List (List ℕ)) → IsNumbered net → AddsAtMost net (receive_room net) (indicated net frames)
 indicated_adds net frames h =
     let most = root_adds net Miniport direction.Up None frames way.Up (next_up net.modules (position net.modules.order Miniport)) h in
     let room = up_room net (position net.modules.order Miniport) (omega arith) in
@@ -112,7 +113,7 @@ send_adds net binding cancel frames h =
 pub put_adds : (net : Net) (stack : ℕ) (message : CrossNo) (vlan : ℕ) (frames : List (List ℕ)) → IsNumbered net → OutcomeAdds net (send_room net) (put_outcome net stack message vlan frames)
 put_adds net stack message vlan frames h =
     by_test (OutcomeAdds net (send_room net)) (phase_is_running net.phase) _ _
-    (λ _. by_test (OutcomeAdds net (send_room net)) (list_any (grows_too_long net.head) frames) _ _
+    (λ _. by_test (OutcomeAdds net (send_room net)) (list_any (is_too_long_tagged net.head) frames) _ _
     (λ _. adds_none net (send_room net))
     (λ _. by_test (OutcomeAdds net (send_room net)) (is_full net (Binding (mux_binding_for net.head stack))) _ _
     (λ _. adds_none net (send_room net))
@@ -314,7 +315,7 @@ phasing_step net (row.Seen number m) q = cc
 phasing_step net (row.CrossOut message way frames) q = cc
 phasing_step net (row.CrossIn stack message way frames) q = cc
 
-pub phasing_rows : (net : Net) (rows : List Row) → ArePhasing rows → Adds net 0 rows
+pub phasing_rows : (net : Net) (rows : List Row) → ArePhasing rows → AddsAtMost net 0 rows
 phasing_rows net [] q = omega arith
 phasing_rows net (r ∷ rows) q = let first = phasing_step net r q.0 in let rest = phasing_rows (after net r) rows q.1 in omega (arith, first, rest)
 

@@ -16,11 +16,11 @@ use Rattle.stack_rules.specs.declared.Stand.TheVariants as stand
 use Rattle.stack_rules.specs.declared.Thing.{Thing}
 use Rattle.stack_rules.specs.declared.Thing.TheVariants as thing
 use Rattle.stack_rules.specs.Tests.{is_down, same_number}
-use Rattle.stack_rules.specs.Net.{Net, after, after_rows, lists, list_of, changed, had_by, passed}
+use Rattle.stack_rules.specs.Net.{Net, after, after_rows, lists, list_of, after_change, had_by, after_pass}
 use Rattle.stack_rules.specs.Places.{position, has_clone, ready_lists}
 use Rattle.stack_rules.specs.Targets.{next_done}
 use Rattle.stack_rules.specs.Rewires.{is_in}
-use Rattle.stack_rules.specs.Cancels.{holds_lists, is_named, cancelled_at, aborted, cancel_rows_at, queues, cancel_outcome}
+use Rattle.stack_rules.specs.Cancels.{is_hold_filter, is_named, cancelled_at, aborted, cancel_rows_at, queues, cancel_outcome}
 use Rattle.stack_rules.specs.Work.{kept_work, list_work}
 use Rattle.rule_basics.specs.Live.{IsApart, Each}
 use Rattle.rule_basics.specs.Numbers.{IsNumbered}
@@ -43,7 +43,7 @@ record Turned (net : Net) (ts : List Thing) (rows : List Row) : Type 0 where
 
 -- the things after a list was turned back
 abbrev back_to : LiveList → ModuleId → PassWay → Target → List Thing → List Thing
-back_to l m way to ts = passed l.list.0 way to (changed l.list.0 (had_by m) ts)
+back_to l m way to ts = after_pass l.list.0 way to (after_change l.list.0 (had_by m) ts)
 
 turned : (net : Net) (ts : List Thing) (m : ModuleId) (l : LiveList) (status : ListStatus) (way : PassWay) (to : Target) (rest : List Row) → IsNumbered (with_things net ts) → list_of l.list.0 (lists ts) ≡ Some l → passed_work net way to ≤ weight net (has_clone net) (thing.List l) →
     Turned net (back_to l m way to ts) rest → Turned net ts (row.TurnBack l.list m status ∷ row.Pass l.list way to ∷ rest)
@@ -184,7 +184,7 @@ module _ (net : Net) (id : ℕ) (h : IsInPlace net) where
   cancel_adds =
       let ms : List ModuleId = queues net.modules in
       let all : Turned net net.things (flat_map (cancel_rows_at net id) ms) =
-      turn_modules ms (queues_differ (holds_lists net.modules) net.modules.order h.ordered.distinct) net.things (record { apart = h.numbered.apart; below = h.numbered.below }) (each_still ms) in
+      turn_modules ms (queues_differ (is_hold_filter net.modules) net.modules.order h.ordered.distinct) net.things (record { apart = h.numbered.apart; below = h.numbered.below }) (each_still ms) in
       let most = work_after (after_rows net (flat_map (cancel_rows_at net id) ms)) (has_clone net) all.stays in
       let start = work_least net in
       let less = all.most in

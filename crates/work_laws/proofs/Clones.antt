@@ -9,7 +9,7 @@ use Rattle.journal_types.specs.declared.Row.{Row}
 use Rattle.journal_types.specs.declared.Row.TheVariants as row
 use Rattle.stack_rules.specs.declared.LiveList.{LiveList}
 use Rattle.stack_rules.specs.declared.Stand.TheVariants as stand
-use Rattle.stack_rules.specs.Net.{Net, after, after_rows, lists, list_of, had_by, taken_by, kept_by, passed_to, request_of}
+use Rattle.stack_rules.specs.Net.{Net, after, after_rows, lists, list_of, had_by, taken_by, as_kept, as_passed, request_of}
 use Rattle.stack_rules.specs.Places.{is_clone_of, has_clone}
 use Rattle.rule_basics.specs.Live.{is_live, IsApart, others, touched, retouched, with_last}
 use Rattle.rule_basics.specs.Numbers.{IsNumbered, IssueNext}
@@ -115,10 +115,10 @@ clones_after net (row.Give list m by) h q = stay_by (lists net.things) _ _ (list
 clones_after net (row.TurnBack list m status) h q = stay_by (lists net.things) _ _ (lists-changed list.0 (had_by m) net.things) (stay_retouched list.0 (had_by m) (λ l. refl) (lists net.things))
 clones_after net (row.Pass list way to) h q =
     stay_by (lists net.things) _ _ (lists-passed list.0 way to net.things)
-    (stay_moved list.0 (lists net.things) (list_of list.0 (lists net.things)) (passed_to way to) refl (λ l. (record l { stand = stand.Passed way to; crossed = None }, refl, refl)) h.apart refl)
+    (stay_moved list.0 (lists net.things) (list_of list.0 (lists net.things)) (as_passed way to) refl (λ l. (record l { stand = stand.Passed way to; crossed = None }, refl, refl)) h.apart refl)
 clones_after net (row.Keep list m) h q =
     stay_by (lists net.things) _ _ (lists-kept list.0 m net.things)
-    (stay_moved list.0 (lists net.things) (list_of list.0 (lists net.things)) (kept_by m) refl (λ l. (record l { last = m; stand = stand.Kept m }, refl, refl)) h.apart refl)
+    (stay_moved list.0 (lists net.things) (list_of list.0 (lists net.things)) (as_kept m) refl (λ l. (record l { last = m; stand = stand.Kept m }, refl, refl)) h.apart refl)
 clones_after net (row.Home list owner status) h q = cc
 clones_after net (row.Wire list frames) h q = λ n t. t
 clones_after net (row.Deliver list binding how frames) h q = λ n t. t

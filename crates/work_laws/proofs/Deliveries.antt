@@ -14,11 +14,12 @@ use Rattle.journal_types.specs.declared.Row.TheVariants as row
 use Rattle.stack_rules.specs.declared.LiveList.{LiveList}
 use Rattle.stack_rules.specs.declared.Thing.TheVariants as thing
 use Rattle.stack_rules.specs.Tests.{is_down, is_echo, is_retain, phase_is_running}
-use Rattle.stack_rules.specs.Net.{Net, Modules, after, after_rows, lists, kind_of_binding, binding_numbers}
+use Rattle.stack_rules.specs.Heads.{kind_of_binding, binding_numbers}
+use Rattle.stack_rules.specs.Net.{Net, Modules, after, after_rows, lists}
 use Rattle.stack_rules.specs.Places.{has_clone, is_full, is_crossed, position_of_target}
 use Rattle.stack_rules.specs.Targets.{next_down, next_back, homeward}
 use Rattle.stack_rules.specs.Outcome.{root, list_no, config_no}
-use Rattle.stack_rules.specs.Deliveries.{takes, takers, echoes, how_for, delivered, settled, last_of, delivery_rows}
+use Rattle.stack_rules.specs.Deliveries.{is_taken_by, takers, echoes, how_for, delivered, settled, last_of, delivery_rows}
 use Rattle.stack_rules.specs.Work.{bottom, echo_count, up_work, kept_work, work}
 use Rattle.rule_basics.specs.Numbers.{IsNumbered}
 use Rattle.rule_basics.proofs.Counts.{one_if, count_by-cons}
@@ -114,7 +115,7 @@ fewer_echo false b c = omega arith
 
 pub echoes_most : (net : Net) (frames : List (List ℕ)) → phase_is_running net.phase ≡ true → count_by (echoes net) (takers net frames) ≤ echo_count net
 echoes_most net frames e =
-    let some = sum_filter (λ b. cond (echoes net b) 1 0) (λ b. takes (get_or net.port.delivers_by b 0) net.head.port.address (slice_index_or frames 0 [])) (binding_numbers net.head) in
+    let some = sum_filter (λ b. cond (echoes net b) 1 0) (λ b. is_taken_by (get_or net.port.delivers_by b 0) net.head.port.address (slice_index_or frames 0 [])) (binding_numbers net.head) in
     let all = sum_by-le-sum_by (λ b. cond (echoes net b) 1 0) (λ b. cond (is_echo (kind_of_binding net.head b)) 1 0) (binding_numbers net.head)
     (λ b. fewer_echo (is_echo (kind_of_binding net.head b)) (phase_is_running net.phase) (not (is_full net (Binding b)))) in
     let on : echo_count net ≡ count_by (λ b. is_echo (kind_of_binding net.head b)) (binding_numbers net.head) = ap (λ b. cond b (count_by (λ c. is_echo (kind_of_binding net.head c)) (binding_numbers net.head)) 0) e in

@@ -16,12 +16,13 @@ use Rattle.stack_rules.specs.declared.Stand.TheVariants as stand
 use Rattle.stack_rules.specs.declared.Thing.{Thing}
 use Rattle.stack_rules.specs.declared.Thing.TheVariants as thing
 use Rattle.stack_rules.specs.Tests.{is_down, is_loop, is_retain, is_virtual, phase_is_running}
-use Rattle.stack_rules.specs.Net.{Net, after, after_rows, lists, list_of, passed, kind_of_binding, binding_numbers}
-use Rattle.stack_rules.specs.Places.{position, is_full, waits, is_kept_by, has_clone, kept_lists, ready_lists}
+use Rattle.stack_rules.specs.Heads.{kind_of_binding, binding_numbers}
+use Rattle.stack_rules.specs.Net.{Net, after, after_rows, lists, list_of, after_pass}
+use Rattle.stack_rules.specs.Places.{position, is_full, is_waiting, is_kept_by, has_clone, kept_lists, ready_lists}
 use Rattle.stack_rules.specs.Targets.{next_down, next_up, next_done, next_back, homeward, turned_back}
 use Rattle.stack_rules.specs.Sends.{first_of, loops, transmitted}
-use Rattle.stack_rules.specs.Cancels.{holds_lists}
-use Rattle.stack_rules.specs.Pumps.{pump_moves}
+use Rattle.stack_rules.specs.Cancels.{is_hold_filter}
+use Rattle.stack_rules.specs.Pumps.{is_pump_moving}
 use Rattle.stack_rules.specs.Drains.{returned_by, returns_all, passed_by, passes_all, empties, empties_ring, first_rows, drain_rows, drained, drain_outcome}
 use Rattle.stack_rules.specs.Rewires.{is_in}
 use Rattle.stack_rules.specs.Work.{bottom, up_work, kept_work, list_work}
@@ -29,7 +30,7 @@ use Rattle.rule_basics.specs.Live.{is_live, IsApart, Each}
 use Rattle.rule_basics.specs.Numbers.{IsNumbered}
 use Rattle.rule_basics.proofs.Numbered.{numbered_after}
 use Rattle.home_laws.proofs.Known.{by_test, Each-first_of}
-use Rattle.place_laws.specs.Kept.{Stands, IsOrdered, IsInPlace}
+use Rattle.place_laws.specs.Kept.{StandsPlaced, IsOrdered, IsInPlace}
 use Rattle.work_laws.proofs.Weights.{Stay, weight, load, work_least, work_after, load_moved, passed_work}
 use Rattle.work_laws.proofs.Clones.{clones_after}
 use Rattle.work_laws.proofs.Ways.{target_most, in_above, down_far, up_near, done_near, back_least}
@@ -69,7 +70,7 @@ batch net pass (l ∷ ms) ts h f a p =
     let way : PassWay = p.0.passed_way in
     let to : Target = p.0.passed_to in
     let now : Net = with_things net ts in
-    let next : List Thing = passed l.list.0 way to ts in
+    let next : List Thing = after_pass l.list.0 way to ts in
     let moved : load (after now (row.Pass l.list way to)) (has_clone net) + weight net (has_clone net) (thing.List l) ≤ load now (has_clone net) + passed_work net way to = load_moved now (has_clone net) l.list way to l f.0 in
     let first : Stay (has_clone now) (has_clone (after now (row.Pass l.list way to))) = clones_after now (row.Pass l.list way to) h refl in
     let numbered : IsNumbered (with_things net next) = numbered_after now (row.Pass l.list way to) tt h in
@@ -125,7 +126,7 @@ passing P test (l ∷ ls) h = cases (test l) refl (passing P test ls h.1)
 pub record IsReady (net : Net) (m : ModuleId) (l : LiveList) : Type 0 where
   pub fine : IsFine net l
   pub kept : l.stand ≡ stand.Kept m
-  pub free : waits net l ≡ false
+  pub free : is_waiting net l ≡ false
 
 pub kept_is : (m : ModuleId) (s : Stand) → is_kept_by m s ≡ true → s ≡ stand.Kept m
 kept_is m stand.Unplaced e = cc
@@ -143,11 +144,11 @@ Each-map P Q f (l ∷ ls) h = (f l h.0, Each-map P Q f ls h.1)
 pub all_ready : (net : Net) (m : ModuleId) → IsInPlace net → Each (IsReady net m) (ready_lists net m)
 all_ready net m h =
     let kept = passing (IsFine net) (λ l. is_kept_by m l.stand) (lists net.things) (all_fine net h) in
-    let ready = passing _ (λ l. not (waits net l)) (kept_lists net m) kept in
-    Each-map _ (IsReady net m) (λ l k. record { fine = k.0.0; kept = kept_is m l.stand k.0.1; free = off (waits net l) k.1 }) (ready_lists net m) ready
+    let ready = passing _ (λ l. not (is_waiting net l)) (kept_lists net m) kept in
+    Each-map _ (IsReady net m) (λ l k. record { fine = k.0.0; kept = kept_is m l.stand k.0.1; free = off (is_waiting net l) k.1 }) (ready_lists net m) ready
 
 pub ready_apart : (net : Net) (m : ModuleId) → IsInPlace net → IsApart (ready_lists net m)
-ready_apart net m h = apart_less (λ l. not (waits net l)) (kept_lists net m) (apart_less (λ l. is_kept_by m l.stand) (lists net.things) h.numbered.apart)
+ready_apart net m h = apart_less (λ l. not (is_waiting net l)) (kept_lists net m) (apart_less (λ l. is_kept_by m l.stand) (lists net.things) h.numbered.apart)
 
 -- all that a module keeps ready is passed on
 batch_good : (net : Net) (pass : LiveList → Row) (ls : List LiveList) → IsNumbered net → IsApart ls → Each (λ l. Found net l × PassesLess net pass l) ls → (map pass ls ≡ []) ⊎ Lowers net (map pass ls)
@@ -158,7 +159,7 @@ batch_good net pass (l ∷ ls) h a p =
 -- a binding returns a receive, a hold filter passes a list on
 pub returned_less : (net : Net) (b : ℕ) (l : LiveList) → IsReady net (Binding b) l → PassesLess net (returned_by net) l
 returned_less net b l r =
-    let up : is_down l.direction ≡ false = subst (Stands net.modules l) r.kept r.fine.placed.stands in
+    let up : is_down l.direction ≡ false = subst (StandsPlaced net.modules l) r.kept r.fine.placed.stands in
     let least = back_least net.modules 0 l.owner (r.fine.placed.up up) in
     let full = full_weight net l r.free in
     let old : list_work net l l.stand ≡ kept_work net (is_down l.direction) (Binding b) = ap (list_work net l) r.kept in
@@ -176,7 +177,7 @@ passed_less net f l o r = cases (is_down l.direction) refl
     cases : (d : Bool) → is_down l.direction ≡ d → PassesLess net (passed_by net f) l
     cases true d =
         let i : ℕ = position net.modules.order (Filter f) in
-        let there : is_in f net.modules.order ≡ true = subst (Stands net.modules l) r.kept r.fine.placed.stands in
+        let there : is_in f net.modules.order ≡ true = subst (StandsPlaced net.modules l) r.kept r.fine.placed.stands in
         let low = in_above f net.modules.order there in
         let far = down_far net.modules i o.distinct (omega (arith, low)) in
         let most = target_most net.modules.order (next_down net.modules i) in
@@ -201,7 +202,7 @@ returns_good net b h =
 
 pub passes_good : (net : Net) (f : ℕ) → IsInPlace net → (passes_all net f ≡ []) ⊎ Lowers net (passes_all net f)
 passes_good net f h =
-    by_test (λ rows. (rows ≡ []) ⊎ Lowers net rows) (holds_lists net.modules f) _ _
+    by_test (λ rows. (rows ≡ []) ⊎ Lowers net rows) (is_hold_filter net.modules f) _ _
     (λ _. batch_good net (passed_by net f) (ready_lists net (Filter f)) h.numbered (ready_apart net (Filter f) h)
     (Each-map (IsReady net (Filter f)) _ (λ l r. (r.fine.found, passed_less net f l h.ordered r)) (ready_lists net (Filter f)) (all_ready net (Filter f) h)))
     (λ _. inl refl)
@@ -209,7 +210,7 @@ passes_good net f h =
 -- a send at the miniport goes homewards
 pub ring_work : (net : Net) (l : LiveList) → IsReady net Miniport l → (is_down l.direction ≡ true) × (list_work net l l.stand ≡ bottom net + 1)
 ring_work net l r =
-    let down : is_down l.direction ≡ true = subst (Stands net.modules l) r.kept r.fine.placed.stands in
+    let down : is_down l.direction ≡ true = subst (StandsPlaced net.modules l) r.kept r.fine.placed.stands in
     let old : list_work net l l.stand ≡ kept_work net (is_down l.direction) Miniport = ap (list_work net l) r.kept in
     let weighs : kept_work net (is_down l.direction) Miniport ≡ 2 * (bottom net - bottom net) + bottom net + 1 = ap (λ d. kept_work net d Miniport) down in
     (down, omega (arith, old, weighs))
@@ -306,7 +307,7 @@ drained_rows (r ∷ rows) = refl
 
 pub drain_lowers : (net : Net) (keeps : Bool) → IsInPlace net → IsStill net (drain_outcome net keeps).rows → MovedLowers net (drain_outcome net keeps)
 drain_lowers net keeps h =
-    by_test (λ o. IsStill net o.rows → MovedLowers net o) (pump_moves net) _ _
+    by_test (λ o. IsStill net o.rows → MovedLowers net o) (is_pump_moving net) _ _
     (λ _ q. pump_lowers net keeps h)
     (λ _ q. drained_lowers net (drain_rows net) (drain_good net h) (subst (IsStill net) (drained_rows (drain_rows net)) q))
 

@@ -17,7 +17,7 @@ use Rattle.stack_rules.specs.declared.RequestAt.{RequestAt}
 use Rattle.stack_rules.specs.declared.RequestAt.TheVariants as at
 use Rattle.stack_rules.specs.declared.Thing.{Thing}
 use Rattle.stack_rules.specs.declared.Thing.TheVariants as thing
-use Rattle.stack_rules.specs.Net.{Net, after, after_rows, request_of, answers, given_to, first_oid, below, place_of_clone, place_of_request}
+use Rattle.stack_rules.specs.Net.{Net, after, after_rows, request_of, is_answer_to, given_to, first_oid, below, place_of_clone, place_of_request}
 use Rattle.stack_rules.specs.Places.{position, has_clone}
 use Rattle.stack_rules.specs.Requests.{Giving, given_rows_by, giving_rows}
 use Rattle.stack_rules.specs.OidTable.{report_of}
@@ -148,7 +148,7 @@ to_miniport net r status value n h =
     let stay : Stay cloned (has_clone (after_rows net rows)) = clones_rows net rows n (tt, (tt, tt)) (refl, (refl, tt)) in
     let give = give_load net cloned h.test Miniport r h.found h.answers in
     let given : Request = record r { at = at.Given Miniport } in
-    let done : load (after_rows net rows) cloned ≤ sum_by (weight next cloned) (filter (λ t. not (answers r.request.0 t)) next.things) + (place_position net r.at - 1) + asked_work next =
+    let done : load (after_rows net rows) cloned ≤ sum_by (weight next cloned) (filter (λ t. not (is_answer_to r.request.0 t)) next.things) + (place_position net r.at - 1) + asked_work next =
     done_load next cloned r.request status value given (place_position net r.at - 1) (given_found r.request.0 Miniport net.requests r h.numbered)
     (λ g e.
     let b = h.asked g e in
@@ -156,7 +156,7 @@ to_miniport net r status value n h =
     let less = given_other net r.request.0 g.0 Miniport (parent_apart g b) net.requests in
     let low = b.below in
     omega (arith, up, less, low)) in
-    let out = sum_filter (weight next cloned) (λ t. not (answers r.request.0 t)) next.things in
+    let out = sum_filter (weight next cloned) (λ t. not (is_answer_to r.request.0 t)) next.things in
     let most = work_after (after_rows net rows) cloned stay in
     let start = work_least net in
     let some = enough r.at h.at in

@@ -23,14 +23,15 @@ use Rattle.stack_rules.specs.declared.Request.{Request}
 use Rattle.stack_rules.specs.declared.Thing.{Thing}
 use Rattle.stack_rules.specs.declared.Thing.TheVariants as thing
 use Rattle.stack_rules.specs.Tests.{is_retain, is_unbound, is_virtual, phase_is_halted, phase_is_paused, phase_is_pausing, phase_is_restarting, phase_is_running}
-use Rattle.stack_rules.specs.Net.{Net, start, told, after_rows, after_turn, after_turns, seen, lists, binding_numbers, kind_of_binding, request_of}
+use Rattle.stack_rules.specs.Heads.{binding_numbers, kind_of_binding}
+use Rattle.stack_rules.specs.Net.{Net, start, told, after_rows, after_turn, after_turns, seen, lists, request_of}
 use Rattle.stack_rules.specs.Outcome.{Outcome, answered, max_filters}
 use Rattle.stack_rules.specs.Places.{outstanding, state_of}
-use Rattle.stack_rules.specs.Cancels.{cancel_rows_at, holds_lists, queues}
+use Rattle.stack_rules.specs.Cancels.{cancel_rows_at, is_hold_filter, queues}
 use Rattle.stack_rules.specs.Crosses.{take_of, take_up_of}
 use Rattle.stack_rules.specs.Drains.{returns_all, passes_all, empties_ring, drain_rows, drained, drain_outcome}
 use Rattle.stack_rules.specs.Pauses.{binding_ids, state_rows, is_status_thing, live_items, halt_items, paused_reply, paused_rows, first_unpaused, restart_at, restart_rows, running_floors}
-use Rattle.stack_rules.specs.Pumps.{request_pump, pump_moves, pump_outcome}
+use Rattle.stack_rules.specs.Pumps.{request_pump, is_pump_moving, pump_outcome}
 use Rattle.stack_rules.specs.Requests.{lowest_giving, oid_modules, or_else}
 use Rattle.stack_rules.specs.Rewires.{is_in, is_bad_position}
 use Rattle.stack_rules.specs.Sends.{transmit_of}
@@ -84,10 +85,10 @@ no_drains net =
     let Nothing : List Row → Type 0 = λ rows. rows ≡ [] in
     first_of_all Nothing refl (map (returns_all now) (binding_numbers now.head) ++ (map (passes_all now) now.modules.order ++ empties_ring now ∷ []))
     (All-append Nothing (map (returns_all now) (binding_numbers now.head)) _ (All-map Nothing (returns_all now) (binding_numbers now.head) (λ b. by_test Nothing (is_retain (kind_of_binding now.head b)) [] [] (λ _. refl) (λ _. refl)))
-    (All-append Nothing (map (passes_all now) now.modules.order) _ (All-map Nothing (passes_all now) now.modules.order (λ f. by_test Nothing (holds_lists now.modules f) [] [] (λ _. refl) (λ _. refl))) (refl, tt)))
+    (All-append Nothing (map (passes_all now) now.modules.order) _ (All-map Nothing (passes_all now) now.modules.order (λ f. by_test Nothing (is_hold_filter now.modules f) [] [] (λ _. refl) (λ _. refl))) (refl, tt)))
 
 drain_idle : (net : Net) (keeps : Bool) → drain_outcome (emptied net) keeps ≡ answered reply.Idle
-drain_idle net keeps = by_test (λ o. o ≡ answered reply.Idle) (pump_moves (emptied net)) (pump_outcome (emptied net) keeps) (drained (drain_rows (emptied net))) (λ _. pump_idle net keeps) (λ _. ap drained (no_drains net))
+drain_idle net keeps = by_test (λ o. o ≡ answered reply.Idle) (is_pump_moving (emptied net)) (pump_outcome (emptied net) keeps) (drained (drain_rows (emptied net))) (λ _. pump_idle net keeps) (λ _. ap drained (no_drains net))
 
 -- a cancel finds no list
 no_cancels : (net : Net) (id : ℕ) (ms : List ModuleId) → flat_map (cancel_rows_at (emptied net) id) ms ≡ []

@@ -12,7 +12,7 @@ use Rattle.journal_types.specs.declared.PassWay.{PassWay}
 use Rattle.journal_types.specs.declared.Target.{Target}
 use Rattle.journal_types.specs.declared.Row.TheVariants as row
 use Rattle.stack_rules.specs.declared.LiveList.{LiveList}
-use Rattle.stack_rules.specs.Net.{Net, after, lists, list_of, had_by, passed_to}
+use Rattle.stack_rules.specs.Net.{Net, after, lists, list_of, had_by, as_passed}
 use Rattle.rule_basics.specs.Live.{others, retouched, with_last, KeepsNumber}
 use Rattle.rule_basics.proofs.Lists.{lists-append, lists-without, lists-changed, lists-passed}
 
@@ -78,7 +78,7 @@ found_issue net l list owner config direction cancel origin frames h = by_lists 
 
 pub found_pass : (net : Net) (l : LiveList) (list : ListNo) (way : PassWay) (to : Target) → (l.list.0 == list.0) ≡ false → Found net l → Found (after net (row.Pass list way to)) l
 found_pass net l list way to a h =
-    by_lists l.list.0 _ _ l (lists-passed list.0 way to net.things) (found_last l.list.0 list.0 (lists net.things) (passed_to way to (list_of list.0 (lists net.things))) l a h)
+    by_lists l.list.0 _ _ l (lists-passed list.0 way to net.things) (found_last l.list.0 list.0 (lists net.things) (as_passed way to (list_of list.0 (lists net.things))) l a h)
 
 pub found_home : (net : Net) (l : LiveList) (list : ListNo) (owner : ModuleId) (status : ListStatus) → (l.list.0 == list.0) ≡ false → Found net l → Found (after net (row.Home list owner status)) l
 found_home net l list owner status a h = by_lists l.list.0 _ _ l (lists-without list.0 net.things) (found_others l.list.0 list.0 (lists net.things) l a h)

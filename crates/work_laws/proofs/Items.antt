@@ -19,7 +19,7 @@ use Rattle.stack_rules.specs.declared.RequestAt.TheVariants as at
 use Rattle.stack_rules.specs.declared.Thing.{Thing}
 use Rattle.stack_rules.specs.declared.Thing.TheVariants as thing
 use Rattle.stack_rules.specs.Tests.{is_binding}
-use Rattle.stack_rules.specs.Net.{Net, after, after_rows, request_of, is_status, answers, answer_to, things_done}
+use Rattle.stack_rules.specs.Net.{Net, after, after_rows, request_of, is_status, is_answer_to, after_answer, things_after_done}
 use Rattle.stack_rules.specs.Places.{position, position_of_target, has_clone, is_away}
 use Rattle.stack_rules.specs.Targets.{next_status}
 use Rattle.stack_rules.specs.Statuses.{seen_by_all, status_rows}
@@ -169,7 +169,7 @@ held_at net n h = held net n h.filter h.request (request_of n net.requests) h.fo
 
 -- what is left to do after a request is done
 answer_sum : (net : Net) (cloned : ℕ → Bool) (request : OidNo) (status : OidStatus) (value : List ℕ) (ts : List Thing) (k : ℕ) (o : Option OidNo) → ((g : OidNo) → o ≡ Some g → holder_position net (request_of g.0 net.requests) ≤ k) →
-    sum_by (weight net cloned) (answer_to o request status value ts) ≤ sum_by (weight net cloned) ts + k
+    sum_by (weight net cloned) (after_answer o request status value ts) ≤ sum_by (weight net cloned) ts + k
 answer_sum net cloned request status value ts k None h = omega arith
 answer_sum net cloned request status value ts k (Some g) h =
     let last = sum_last (weight net cloned) ts (thing.Answer (record { request = request; parent = g; status = status; value = value })) in
@@ -180,16 +180,16 @@ abbrev others_asked : ℕ → List Request → List Request
 others_asked m rs = filter (λ r. not (r.request.0 == m)) rs
 
 pub done_load : (net : Net) (cloned : ℕ → Bool) (request : OidNo) (status : OidStatus) (value : List ℕ) (r : Request) (k : ℕ) → request_of request.0 net.requests ≡ Some r → ((g : OidNo) → r.parent ≡ Some g → holder_position net (request_of g.0 net.requests) ≤ k) →
-    load (after net (row.OidDone request status value)) cloned ≤ sum_by (weight net cloned) (filter (λ t. not (answers request.0 t)) net.things) + k + asked_work net
+    load (after net (row.OidDone request status value)) cloned ≤ sum_by (weight net cloned) (filter (λ t. not (is_answer_to request.0 t)) net.things) + k + asked_work net
 done_load net cloned request status value r k f h =
     let next : Net = record net { requests = others_asked request.0 net.requests } in
-    let rest : List Thing = filter (λ t. not (answers request.0 t)) net.things in
-    let new : sum_by (weight next cloned) (answer_to r.parent request status value rest) ≤ sum_by (weight next cloned) rest + k =
+    let rest : List Thing = filter (λ t. not (is_answer_to request.0 t)) net.things in
+    let new : sum_by (weight next cloned) (after_answer r.parent request status value rest) ≤ sum_by (weight next cloned) rest + k =
     answer_sum next cloned request status value rest k r.parent (λ g e. let less = done_less net g.0 request.0 net.requests in let most = h g e in omega (arith, less, most)) in
     let less = sum_by-le-sum_by (weight next cloned) (weight net cloned) rest (done_lighter net cloned request.0) in
     let asked : asked_work next ≤ asked_work net = sum_filter (λ (q : Request). request_work net q.at) (λ q. not (q.request.0 == request.0)) net.requests in
-    let same : sum_by (weight next cloned) (things_done (request_of request.0 net.requests) request status value net.things) ≡ sum_by (weight next cloned) (answer_to r.parent request status value rest) =
-    ap (λ o. sum_by (weight next cloned) (things_done o request status value net.things)) f in
+    let same : sum_by (weight next cloned) (things_after_done (request_of request.0 net.requests) request status value net.things) ≡ sum_by (weight next cloned) (after_answer r.parent request status value rest) =
+    ap (λ o. sum_by (weight next cloned) (things_after_done o request status value net.things)) f in
     omega (arith, new, less, asked, same)
 
 -- an answer
@@ -198,7 +198,7 @@ answer_lowers net a n f h asked =
     let rows : List Row = row.OidDone a.parent a.status a.value ∷ [] in
     let i : ℕ = position net.modules.order (Filter h.filter) in
     let stay : Stay (has_clone net) (has_clone (after_rows net rows)) = clones_rows net rows n (tt, tt) (refl, tt) in
-    let out = found_out (weight net (has_clone net)) (λ t. not (answers a.parent.0 t)) is_away net.things (thing.Answer a) f (ap not (itself a.parent.0)) in
+    let out = found_out (weight net (has_clone net)) (λ t. not (is_answer_to a.parent.0 t)) is_away net.things (thing.Answer a) f (ap not (itself a.parent.0)) in
     let held = held_at net a.parent.0 h in
     let done = done_load net (has_clone net) a.parent a.status a.value h.request (i - 1) h.found
     (λ g e. let b = asked g e in let up = held_at net g.0 b.parent in let less = b.below in let here : place_position net h.request.at ≡ i = ap (place_position net) h.at in omega (arith, up, less, here)) in

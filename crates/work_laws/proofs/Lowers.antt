@@ -18,8 +18,8 @@ use Rattle.stack_rules.specs.declared.Stand.TheVariants as stand
 use Rattle.stack_rules.specs.declared.Thing.{Thing}
 use Rattle.stack_rules.specs.declared.Thing.TheVariants as thing
 use Rattle.stack_rules.specs.Tests.{is_down}
-use Rattle.stack_rules.specs.Net.{Net, after, after_rows, lists, list_of, without, had_by, kept_by, passed_to}
-use Rattle.stack_rules.specs.Places.{has_clone, waits, is_crossed, is_clone_of}
+use Rattle.stack_rules.specs.Net.{Net, after, after_rows, lists, list_of, without, had_by, as_kept, as_passed}
+use Rattle.stack_rules.specs.Places.{has_clone, is_waiting, is_crossed, is_clone_of}
 use Rattle.stack_rules.specs.Work.{list_work, kept_work, work}
 use Rattle.rule_basics.specs.Numbers.{IsNumbered}
 use Rattle.rule_basics.proofs.Numbered.{numbered_after}
@@ -41,14 +41,14 @@ Trades net old new rows = work (after_rows net rows) + old ≤ work net + new
 pub record IsFree (net : Net) (l : LiveList) : Type 0 where
   pub numbered : IsNumbered net
   pub found : Found net l
-  pub free : waits net l ≡ false
+  pub free : is_waiting net l ≡ false
 
 weighs : (b : Bool) (k : ℕ) → b ≡ false → k ≤ cond b 0 k
 weighs true k e = cc
 weighs false k e = omega arith
 
-pub full_weight : (net : Net) (l : LiveList) → waits net l ≡ false → list_work net l l.stand ≤ weight net (has_clone net) (thing.List l)
-full_weight net l e = weighs (waits net l) (list_work net l l.stand) e
+pub full_weight : (net : Net) (l : LiveList) → is_waiting net l ≡ false → list_work net l l.stand ≤ weight net (has_clone net) (thing.List l)
+full_weight net l e = weighs (is_waiting net l) (list_work net l l.stand) e
 
 pub pass_trades : (net : Net) (l : LiveList) (way : PassWay) (to : Target) → IsFree net l → Trades net (list_work net l l.stand) (passed_work net way to) (row.Pass l.list way to ∷ [])
 pass_trades net l way to h =
@@ -122,8 +122,8 @@ waiting_out net cloned n e (thing.List x ∷ ts) =
     let cases : (b : Bool) → (x.list.0 == n) ≡ b → sum_by (weight net cloned) (thing.List x ∷ ts) ≤ sum_by (weight net cloned) (cond (not b) (thing.List x ∷ without n ts) (without n ts)) = elim [
       | true ↦ λ t.
           let same : x.list.0 ≡ n = grind (arith, nat_tests) in
-          let waits : cloned x.list.0 ≡ true = ap cloned same ∙ e in
-          let none : weight net cloned (thing.List x) ≤ 0 = nothing (is_crossed x.crossed) (cloned x.list.0) (list_work net x x.stand) waits in
+          let is_waiting : cloned x.list.0 ≡ true = ap cloned same ∙ e in
+          let none : weight net cloned (thing.List x) ≤ 0 = nothing (is_crossed x.crossed) (cloned x.list.0) (list_work net x x.stand) is_waiting in
           omega (arith, rest, whole, none)
       | false ↦ λ t. let part = sum_by-cons (weight net cloned) (thing.List x) (without n ts) in omega (arith, rest, whole, part)
     ] in
@@ -155,7 +155,7 @@ now_waits net cloned more l s e f =
 load_waiting : (net : Net) (cloned : ℕ → Bool) (list : ListNo) (m : ModuleId) → cloned list.0 ≡ true → load (after net (row.Keep list m)) cloned ≤ load net cloned
 load_waiting net cloned list m e =
     let out = sum_without (weight net cloned) list.0 net.things in
-    let back = sum_at_end (weight net cloned) (without list.0 net.things) 0 (kept_by m (list_of list.0 (lists net.things))) (none (list_of list.0 (lists net.things)) refl) in
+    let back = sum_at_end (weight net cloned) (without list.0 net.things) 0 (as_kept m (list_of list.0 (lists net.things))) (none (list_of list.0 (lists net.things)) refl) in
     omega (arith, out, back)
   where
     nothing : (a b : Bool) (k : ℕ) → b ≡ true → cond (a || b) 0 k ≤ 0
@@ -166,13 +166,13 @@ load_waiting net cloned list m e =
     same : (x l : LiveList) → Some x ≡ Some l → x ≡ l
     same x l f = cc
 
-    none : (o : Option LiveList) → list_of list.0 (lists net.things) ≡ o → (l : LiveList) → kept_by m o ≡ Some l → weight net cloned (thing.List l) ≤ 0
+    none : (o : Option LiveList) → list_of list.0 (lists net.things) ≡ o → (l : LiveList) → as_kept m o ≡ Some l → weight net cloned (thing.List l) ≤ 0
     none None f l g = cc
     none (Some x) f l g =
         let number : x.list.0 ≡ list.0 = (find_is list.0 (lists net.things) x f).0 in
-        let waits : cloned x.list.0 ≡ true = ap cloned number ∙ e in
+        let is_waiting : cloned x.list.0 ≡ true = ap cloned number ∙ e in
         subst (λ (k : LiveList). weight net cloned (thing.List k) ≤ 0) (same (record x { last = m; stand = stand.Kept m }) l g)
-        (nothing (is_crossed x.crossed) (cloned x.list.0) (kept_work net (is_down x.direction) m) waits)
+        (nothing (is_crossed x.crossed) (cloned x.list.0) (kept_work net (is_down x.direction) m) is_waiting)
 
 is_itself : (n : ℕ) → (n == n) ≡ true
 is_itself n = grind (arith, nat_tests)
@@ -195,7 +195,7 @@ clone_trades net l m handler owner config direction cancel frames by way to h =
     let on : Stay more (has_clone four) = clones_rows two (row.Keep l.list by ∷ row.Pass (list_no net.next.list) way to ∷ []) numbered (tt, (tt, tt)) (refl, (refl, tt)) in
     let there : more l.list.0 ≡ true =
     ap (any_clone l.list.0) (lists-append given.things (thing.List new ∷ [])) ∙ list_any-append (λ x. is_clone_of l.list.0 x.origin) (lists given.things) (new ∷ []) ∙ last (any_clone l.list.0 (lists given.things)) (l.list.0 == l.list.0) (is_itself l.list.0) in
-    let waits = now_waits net cloned more l stay there h.found in
+    let is_waiting = now_waits net cloned more l stay there h.found in
     let give = load_give net more l.list m handler in
     let issued = load_issue given more (list_no net.next.list) owner config direction cancel (origin.Clone l.list) frames in
     let keep = load_waiting two more l.list by there in
@@ -203,7 +203,7 @@ clone_trades net l m handler owner config direction cancel frames by way to h =
     let most = work_after four more on in
     let least = work_least net in
     let full = full_weight net l h.free in
-    omega (arith, waits, give, issued, keep, pass, most, least, full)
+    omega (arith, is_waiting, give, issued, keep, pass, most, least, full)
   where
     last : (a b : Bool) → b ≡ true → (a || (b || false)) ≡ true
     last true b e = refl
@@ -330,7 +330,7 @@ home_releases net l owner status o list way to h e same =
     let second : Stay (has_clone next) (has_clone last) = clones_after next (row.Pass list way to) numbered refl in
     let most = work_after last cloned (λ n t. second n (first n t)) in
     let back : sum_by (weight next cloned) last.things ≤ sum_by (weight next cloned) (without list.0 next.things) + passed_work net way to =
-    sum_at_end (weight next cloned) (without list.0 next.things) (passed_work net way to) (passed_to way to (list_of list.0 (lists next.things))) (passed_weighs next cloned way to (list_of list.0 (lists next.things))) in
+    sum_at_end (weight next cloned) (without list.0 next.things) (passed_work net way to) (as_passed way to (list_of list.0 (lists next.things))) (passed_weighs next cloned way to (list_of list.0 (lists next.things))) in
     let less : sum_by (weight next cloned) (without o.0 next.things) ≤ sum_by (weight next (has_clone net)) next.things = others_weigh next (has_clone net) o.0 next.things in
     let there : sum_by (weight next cloned) (without list.0 next.things) ≡ sum_by (weight next cloned) (without o.0 next.things) = ap (λ i. sum_by (weight next cloned) (without i next.things)) same in
     let gone = load_gone net (has_clone net) l.list owner status l h.found in

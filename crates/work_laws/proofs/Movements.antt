@@ -17,7 +17,7 @@ use Rattle.work_laws.proofs.Filters.{Lowers}
 use Rattle.work_laws.proofs.Pumps.{pump_lowers}
 use Rattle.work_laws.proofs.Drains.{IsStill, drain_lowers, loops_running}
 use Rattle.stack_rules.specs.Work.{bottom}
-use Rattle.work_laws.proofs.Adds.{Adds}
+use Rattle.work_laws.proofs.Adds.{AddsAtMost}
 use Rattle.work_laws.proofs.Cancels.{cancel_adds}
 use Rattle.work_laws.proofs.Others.{give_back_adds, done_adds, transmit_adds, drain_adds}
 
@@ -58,28 +58,28 @@ AddsInPlace test room =
     (net : Net) (e : Event) (r : Reply) (rows : List Row) (choice : Choice) → IsInPlace net → test e ≡ true → rows ≡ (outcome net e choice).rows → work (after_rows (told net e r) rows) ≤ work net + room net
 
 gives_back : AddsInPlace is_give_back (λ net. 0)
-gives_back net (event.GiveBack binding list) r rows choice h q e = subst (Adds net 0) (sym e) (give_back_adds net binding list h)
+gives_back net (event.GiveBack binding list) r rows choice h q e = subst (AddsAtMost net 0) (sym e) (give_back_adds net binding list h)
 gives_back net _ r rows choice h q e = cc
 
 cancels : AddsInPlace is_cancelling (λ net. 0)
-cancels net (event.Cancel id) r rows choice h q e = subst (Adds net 0) (sym e) (cancel_adds net id h)
+cancels net (event.Cancel id) r rows choice h q e = subst (AddsAtMost net 0) (sym e) (cancel_adds net id h)
 cancels net _ r rows choice h q e = cc
 
 dones : AddsInPlace is_done (λ net. bottom net)
-dones net (event.CrossDone message status) r rows choice h q e = subst (Adds net (bottom net)) (sym e) (done_adds net message status h)
+dones net (event.CrossDone message status) r rows choice h q e = subst (AddsAtMost net (bottom net)) (sym e) (done_adds net message status h)
 dones net _ r rows choice h q e = cc
 
 transmits : AddsInPlace is_transmit receive_room
-transmits net event.Transmit r rows choice h q e = subst (Adds net (receive_room net)) (sym e) (transmit_adds net h).0
+transmits net event.Transmit r rows choice h q e = subst (AddsAtMost net (receive_room net)) (sym e) (transmit_adds net h).0
 transmits net _ r rows choice h q e = cc
 
 drains : AddsInPlace is_drain receive_room
-drains net event.Drain r rows choice h q e = subst (Adds net (receive_room net)) (sym e) (drain_adds net choice.keeps h)
+drains net event.Drain r rows choice h q e = subst (AddsAtMost net (receive_room net)) (sym e) (drain_adds net choice.keeps h)
 drains net _ r rows choice h q e = cc
 
 quiet_transmits : (net : Net) (e : Event) (r : Reply) (rows : List Row) (choice : Choice) → IsInPlace net → is_transmit e ≡ true → rows ≡ (outcome net e choice).rows → originates rows ≡ false → work (after_rows (told net e r) rows) ≤ work net
 quiet_transmits net event.Transmit r rows choice h q e o =
-    let least : Adds net 0 rows = subst (Adds net 0) (sym e) ((transmit_adds net h).1 (ap originates (sym e) ∙ o)) in
+    let least : AddsAtMost net 0 rows = subst (AddsAtMost net 0) (sym e) ((transmit_adds net h).1 (ap originates (sym e) ∙ o)) in
     omega (arith, least)
 quiet_transmits net _ r rows choice h q e o = cc
 

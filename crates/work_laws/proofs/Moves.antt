@@ -33,7 +33,7 @@ use Rattle.home_laws.proofs.Known.{by_test}
 use Rattle.rule_basics.proofs.Lives.{find_is}
 use Rattle.work_laws.proofs.Ways.{target_most, in_above, down_far, up_near, done_near, back_far}
 use Rattle.work_laws.proofs.Lowers.{IsFree, back_trades, give_trades, give_back_trades, keep_trades, home_only, home_alone, home_releases}
-use Rattle.place_laws.specs.Kept.{StopsBelow, StopsAbove, Stands, IsOriginal, HasOriginal, IsOrdered}
+use Rattle.place_laws.specs.Kept.{StopsBelow, StopsAbove, StandsPlaced, IsOriginal, HasOriginal, IsOrdered}
 use Rattle.work_laws.proofs.Filters.{Lowers, onward_down, onward_up, homeward_done, homeward_back, AllLess, filter_lowers}
 use Rattle.work_laws.proofs.Deliveries.{delivery_lowers}
 
@@ -228,7 +228,7 @@ homeward_lowers_back net l m status h o parent at d stops =
     above f (inr b) = b
 
 -- a list on its way that is placed
-pub moved_lowers : (net : Net) (l : LiveList) (s : Stand) (keeps : Bool) → IsFree net l → IsOrdered net.modules → HasOriginal net l → l.stand ≡ s → Stands net.modules l s → is_passed s ≡ true → Lowers net (moved_rows net l s keeps)
+pub moved_lowers : (net : Net) (l : LiveList) (s : Stand) (keeps : Bool) → IsFree net l → IsOrdered net.modules → HasOriginal net l → l.stand ≡ s → StandsPlaced net.modules l s → is_passed s ≡ true → Lowers net (moved_rows net l s keeps)
 moved_lowers net l stand.Unplaced keeps h o parent at p q = cc
 moved_lowers net l (stand.Kept m) keeps h o parent at p q = cc
 moved_lowers net l (stand.Passed way.Down (Module Miniport)) keeps h o parent at p q = at_miniport net l h at p

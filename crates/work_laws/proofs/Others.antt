@@ -16,14 +16,15 @@ use Rattle.stack_rules.specs.declared.LiveList.{LiveList}
 use Rattle.stack_rules.specs.declared.Stand.TheVariants as stand
 use Rattle.stack_rules.specs.declared.Thing.TheVariants as thing
 use Rattle.stack_rules.specs.Tests.{is_down, is_virtual, phase_is_running}
-use Rattle.stack_rules.specs.Net.{Net, after, lists, list_of, binding_numbers}
+use Rattle.stack_rules.specs.Heads.{binding_numbers}
+use Rattle.stack_rules.specs.Net.{Net, after, lists, list_of}
 use Rattle.stack_rules.specs.Places.{position, is_crossed, is_kept_by, has_clone, kept_lists, ready_lists}
 use Rattle.stack_rules.specs.Targets.{next_up, next_done, homeward}
 use Rattle.stack_rules.specs.Outcome.{root, list_no, config_no}
 use Rattle.stack_rules.specs.Sends.{first_of, loops, transmitted, transmit_of, transmit_outcome}
 use Rattle.stack_rules.specs.Receives.{give_back_of, give_back_outcome}
 use Rattle.stack_rules.specs.Crosses.{is_in_message, done_of, done_outcome}
-use Rattle.stack_rules.specs.Pumps.{pump_moves}
+use Rattle.stack_rules.specs.Pumps.{is_pump_moving}
 use Rattle.stack_rules.specs.Drains.{returned_by, returns_all, passes_all, empties, empties_ring, first_rows, drain_rows, drained, drain_outcome}
 use Rattle.stack_rules.specs.Work.{bottom, work}
 use Rattle.rule_basics.specs.Live.{Each}
@@ -31,11 +32,11 @@ use Rattle.rule_basics.specs.Numbers.{IsNumbered}
 use Rattle.rule_basics.proofs.Each.{Each-found}
 use Rattle.home_laws.proofs.Known.{by_test, Each-find, Each-first_of}
 use Rattle.work_laws.specs.Bounds.{originates, receive_room}
-use Rattle.place_laws.specs.Kept.{Stands, IsInPlace}
+use Rattle.place_laws.specs.Kept.{StandsPlaced, IsInPlace}
 use Rattle.work_laws.proofs.Weights.{Stay, weight, load, work_least, work_after, load_pass, load_moved, load_issue, passed_work}
 use Rattle.work_laws.proofs.Clones.{clones_after, clones_rows}
 use Rattle.work_laws.proofs.Ways.{done_near}
-use Rattle.work_laws.proofs.Adds.{Adds, OutcomeAdds, adds_none, up_room}
+use Rattle.work_laws.proofs.Adds.{AddsAtMost, OutcomeAdds, adds_none, up_room}
 use Rattle.work_laws.proofs.Hands.{Found, found_issue, found_pass}
 use Rattle.work_laws.proofs.Lowers.{full_weight}
 use Rattle.work_laws.proofs.Filters.{Lowers, homeward_done}
@@ -94,7 +95,7 @@ done_adds_of net status None h f = adds_none net (bottom net)
 done_adds_of net status (Some l) h f =
     let known = f l refl in
     let at : l.stand ≡ stand.Kept Miniport = (known.0.placed.crossed known.1).0 in
-    let down : is_down l.direction ≡ true = subst (Stands net.modules l) at known.0.placed.stands in
+    let down : is_down l.direction ≡ true = subst (StandsPlaced net.modules l) at known.0.placed.stands in
     let i : ℕ = position net.modules.order Miniport in
     let above = known.0.placed.down down in
     let to : Target = next_done net.modules i l.owner in
@@ -104,7 +105,7 @@ done_adds_of net status (Some l) h f =
     let moved = load_pass net (has_clone net) l.list (way.Done status) to in
     let most = work_after (after net pass) (has_clone net) stay in
     let start = work_least net in
-    subst (λ (r : Row). Adds net (bottom net) (r ∷ [])) (sym (homeward_done net.modules l.list l.owner l.direction i status down)) (omega (arith, near, moved, most, start))
+    subst (λ (r : Row). AddsAtMost net (bottom net) (r ∷ [])) (sym (homeward_done net.modules l.list l.owner l.direction i status down)) (omega (arith, near, moved, most, start))
 
 pub done_adds : (net : Net) (message : CrossNo) (status : ListStatus) → IsInPlace net → OutcomeAdds net (bottom net) (done_outcome net message status)
 done_adds net message status h =
@@ -116,7 +117,7 @@ other_number : (n m : ℕ) → n < m → (n == m) ≡ false
 other_number n m h = grind (arith, nat_tests)
 
 looped_adds : (net : Net) (l : LiveList) → IsNumbered net → IsReady net Miniport l →
-    Adds net (receive_room net)
+    AddsAtMost net (receive_room net)
     (row.Wire l.list l.frames ∷ root net net.next.list Miniport direction.Up None l.frames ∷ row.Pass (list_no net.next.list) way.Up (next_up net.modules (position net.modules.order Miniport)) ∷ homeward net.modules l (position net.modules.order Miniport) Success ∷ [])
 looped_adds net l n r =
     let i : ℕ = position net.modules.order Miniport in
@@ -143,11 +144,11 @@ looped_adds net l n r =
     let most : work four ≤ load four (has_clone net) = work_after four (has_clone net) stay in
     let start = work_least net in
     let old = ring.1 in
-    subst (λ (h : Row). Adds net (receive_room net) (row.Wire l.list l.frames ∷ issue ∷ up ∷ h ∷ [])) (sym (homeward_done net.modules l.list l.owner l.direction i Success ring.0)) (omega (arith, near, room, issued, passed, moved, full, most, start, old))
+    subst (λ (h : Row). AddsAtMost net (receive_room net) (row.Wire l.list l.frames ∷ issue ∷ up ∷ h ∷ [])) (sym (homeward_done net.modules l.list l.owner l.direction i Success ring.0)) (omega (arith, near, room, issued, passed, moved, full, most, start, old))
 
 -- what is transmitted: nothing is added unless the miniport originates
 abbrev pub TransmitAdds : Net → List Row → Type 0
-TransmitAdds net rows = Adds net (receive_room net) rows × (originates rows ≡ false → Adds net 0 rows)
+TransmitAdds net rows = AddsAtMost net (receive_room net) rows × (originates rows ≡ false → AddsAtMost net 0 rows)
 
 transmitted_adds : (net : Net) (l : LiveList) → IsNumbered net → IsReady net Miniport l → TransmitAdds net (transmitted net l)
 transmitted_adds net l n r =
@@ -171,18 +172,18 @@ transmit_adds net h = cases (is_virtual net.head.kind) refl
     cases false v = transmit_adds_of net (first_of (kept_lists net Miniport)) h.numbered (λ l e. Each-first_of (IsReady net Miniport) (kept_lists net Miniport) l (kept v) e)
 
 -- a drain
-empties_adds : (net : Net) (o : Option LiveList) → IsNumbered net → ((l : LiveList) → o ≡ Some l → IsReady net Miniport l) → Adds net (receive_room net) (empties net o)
+empties_adds : (net : Net) (o : Option LiveList) → IsNumbered net → ((l : LiveList) → o ≡ Some l → IsReady net Miniport l) → AddsAtMost net (receive_room net) (empties net o)
 empties_adds net None n r = adds_none net (receive_room net)
 empties_adds net (Some l) n r =
-    by_test (Adds net (receive_room net)) (is_virtual net.head.kind) _ _
-    (λ _. by_test (Adds net (receive_room net)) (phase_is_running net.phase) _ _ (λ _. adds_none net (receive_room net)) (λ _. let less = turned_lowers net l n (r l refl) in omega (arith, less)))
+    by_test (AddsAtMost net (receive_room net)) (is_virtual net.head.kind) _ _
+    (λ _. by_test (AddsAtMost net (receive_room net)) (phase_is_running net.phase) _ _ (λ _. adds_none net (receive_room net)) (λ _. let less = turned_lowers net l n (r l refl) in omega (arith, less)))
     (λ _. (transmitted_adds net l n (r l refl)).0)
 
 abbrev EachBounded : Net → List (List Row) → Type 0
 EachBounded net [] = Unit {0}
-EachBounded net (rows ∷ others) = Adds net (receive_room net) rows × EachBounded net others
+EachBounded net (rows ∷ others) = AddsAtMost net (receive_room net) rows × EachBounded net others
 
-first_bounded : (net : Net) (all : List (List Row)) → EachBounded net all → Adds net (receive_room net) (first_rows all)
+first_bounded : (net : Net) (all : List (List Row)) → EachBounded net all → AddsAtMost net (receive_room net) (first_rows all)
 first_bounded net [] g = adds_none net (receive_room net)
 first_bounded net ([] ∷ others) g = first_bounded net others g.1
 first_bounded net ((r ∷ rows) ∷ others) g = g.0
@@ -191,15 +192,15 @@ bounded-append : (net : Net) (all others : List (List Row)) → EachBounded net 
 bounded-append net [] others f g = g
 bounded-append net (rows ∷ all) others f g = (f.0, bounded-append net all others f.1 g)
 
-good_bounded : (net : Net) (rows : List Row) → (rows ≡ []) ⊎ Lowers net rows → Adds net (receive_room net) rows
-good_bounded net rows (inl e) = subst (Adds net (receive_room net)) (sym e) (adds_none net (receive_room net))
+good_bounded : (net : Net) (rows : List Row) → (rows ≡ []) ⊎ Lowers net rows → AddsAtMost net (receive_room net) rows
+good_bounded net rows (inl e) = subst (AddsAtMost net (receive_room net)) (sym e) (adds_none net (receive_room net))
 good_bounded net rows (inr less) = omega (arith, less)
 
 bounded-map : (net : Net) (rows : ℕ → List Row) → ((n : ℕ) → (rows n ≡ []) ⊎ Lowers net (rows n)) → (ns : List ℕ) → EachBounded net (map rows ns)
 bounded-map net rows f [] = tt
 bounded-map net rows f (n ∷ ns) = (good_bounded net (rows n) (f n), bounded-map net rows f ns)
 
-drain_rows_add : (net : Net) → IsInPlace net → Adds net (receive_room net) (drain_rows net)
+drain_rows_add : (net : Net) → IsInPlace net → AddsAtMost net (receive_room net) (drain_rows net)
 drain_rows_add net h =
     let returns = map (returns_all net) (binding_numbers net.head) in
     let passes = map (passes_all net) net.modules.order in
@@ -208,12 +209,12 @@ drain_rows_add net h =
     (bounded-append net returns (passes ++ empties_ring net ∷ []) (bounded-map net (returns_all net) (λ b. returns_good net b h) (binding_numbers net.head))
     (bounded-append net passes (empties_ring net ∷ []) (bounded-map net (passes_all net) (λ f. passes_good net f h) net.modules.order) (ring, tt)))
 
-drained_adds : (net : Net) (rows : List Row) → Adds net (receive_room net) rows → OutcomeAdds net (receive_room net) (drained rows)
+drained_adds : (net : Net) (rows : List Row) → AddsAtMost net (receive_room net) rows → OutcomeAdds net (receive_room net) (drained rows)
 drained_adds net [] a = a
 drained_adds net (r ∷ rows) a = a
 
 pub drain_adds : (net : Net) (keeps : Bool) → IsInPlace net → OutcomeAdds net (receive_room net) (drain_outcome net keeps)
 drain_adds net keeps h =
-    by_test (OutcomeAdds net (receive_room net)) (pump_moves net) _ _
+    by_test (OutcomeAdds net (receive_room net)) (is_pump_moving net) _ _
     (λ _. let none = pump_adds net keeps h in omega (arith, none))
     (λ _. drained_adds net (drain_rows net) (drain_rows_add net h))

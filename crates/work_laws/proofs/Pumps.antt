@@ -21,9 +21,9 @@ use Rattle.stack_rules.specs.Places.{is_away, is_passed, is_clone_of, is_crossed
 use Rattle.stack_rules.specs.Requests.{Giving, next_giving}
 use Rattle.stack_rules.specs.Pumps.{thing_rows, request_pump, pump_of, pump_outcome}
 use Rattle.stack_rules.specs.Outcome.{Outcome}
-use Rattle.rule_basics.specs.Live.{is_live, IsApart, Each}
+use Rattle.rule_basics.specs.Live.{is_live, IsApart, Each, EachRequest, EachApart}
 use Rattle.home_laws.proofs.Known.{thing_found}
-use Rattle.place_laws.specs.Kept.{IsPlaced, IsOriginal, HasOriginal, GoesUp, IsGiven, IsAsked, EachAnswer, EachRequest, EachStatus, EachApart, IsInPlace}
+use Rattle.place_laws.specs.Kept.{IsPlaced, IsOriginal, HasOriginal, GoesUp, IsGiven, IsAsked, EachAnswer, EachStatus, IsInPlace}
 use Rattle.work_laws.proofs.Clones.{any_clone}
 use Rattle.work_laws.proofs.Adds.{OutcomeAdds, adds_none}
 use Rattle.work_laws.proofs.Hands.{Found}

@@ -4,7 +4,7 @@ use Rattle.std.proofs.lemmas.List.Sums.{sum_by-cons, sum_by_push}
 use Rattle.stack_rules.specs.declared.LiveList.{LiveList}
 use Rattle.stack_rules.specs.declared.Thing.{Thing}
 use Rattle.stack_rules.specs.declared.Thing.TheVariants as thing
-use Rattle.stack_rules.specs.Net.{lists, list_of, without, with_list, changed, at_end}
+use Rattle.stack_rules.specs.Net.{lists, list_of, without, with_list, after_change, at_end}
 
 pub sum_filter : {X : Type 0} (w : X → ℕ) (test : X → Bool) (ts : List X) → sum_by w (filter test ts) ≤ sum_by w ts
 sum_filter w test [] = omega arith
@@ -53,12 +53,12 @@ with_less w n f less (thing.List l) = elim (l.list.0 == n) as (λ b. w (cond b (
 with_less w n f less (thing.Status s) = omega arith
 with_less w n f less (thing.Answer a) = omega arith
 
-pub sum_changed : (w : Thing → ℕ) (n : ℕ) (f : LiveList → LiveList) → ((l : LiveList) → w (thing.List (f l)) ≤ w (thing.List l)) → (ts : List Thing) → sum_by w (changed n f ts) ≤ sum_by w ts
+pub sum_changed : (w : Thing → ℕ) (n : ℕ) (f : LiveList → LiveList) → ((l : LiveList) → w (thing.List (f l)) ≤ w (thing.List l)) → (ts : List Thing) → sum_by w (after_change n f ts) ≤ sum_by w ts
 sum_changed w n f less [] = omega arith
 sum_changed w n f less (t ∷ ts) =
     let here = with_less w n f less t in
     let whole = sum_by-cons w t ts in
-    let part = sum_by-cons w (with_list n f t) (changed n f ts) in
+    let part = sum_by-cons w (with_list n f t) (after_change n f ts) in
     let rest = sum_changed w n f less ts in
     omega (arith, here, whole, part, rest)
 

@@ -131,9 +131,9 @@ pub down_least : (ms : Modules) (i : ℕ) → 1 ≤ position_of_target ms.order 
 down_least ms i = found_or (λ t. 1 ≤ position_of_target ms.order t) (has_send ms) (drop i ms.order) (Module Miniport) (λ f h x. omega arith) (omega arith)
 
 -- a receive and a status go further up
-near_by : (ms : Modules) (i : ℕ) (has : ℕ → Bool) → position_of_target ms.order (first_filter has (filters_above ms i) Bindings) ≤ i - 1
+near_by : (ms : Modules) (i : ℕ) (has : ℕ → Bool) → position_of_target ms.order (first_filter has (reverse (filters_above ms i)) Bindings) ≤ i - 1
 near_by ms i has =
-    found_or (λ t. position_of_target ms.order t ≤ i - 1) has (filters_above ms i) Bindings
+    found_or (λ t. position_of_target ms.order t ≤ i - 1) has (reverse (filters_above ms i)) Bindings
     (λ f h x. let near = take_above f (i - 1) ms.order (reverse_in f (take (i - 1) ms.order) x) in omega (arith, near))
     (omega arith)
 
@@ -183,7 +183,7 @@ pub down_to : (ms : Modules) (i : ℕ) (P : Target → Type 0) → ((f : ℕ) �
 down_to ms i P f o = found_or P (has_send ms) (drop i ms.order) (Module Miniport) (λ g h x. f g h (drop_in g i ms.order x)) o
 
 pub up_to : (ms : Modules) (i : ℕ) (P : Target → Type 0) → ((f : ℕ) → has_receive ms f ≡ true → is_in f ms.order ≡ true → P (Module (Filter f))) → P Bindings → P (next_up ms i)
-up_to ms i P f o = found_or P (has_receive ms) (filters_above ms i) Bindings (λ g h x. f g h (take_in g (i - 1) ms.order (reverse_in g (take (i - 1) ms.order) x))) o
+up_to ms i P f o = found_or P (has_receive ms) (reverse (filters_above ms i)) Bindings (λ g h x. f g h (take_in g (i - 1) ms.order (reverse_in g (take (i - 1) ms.order) x))) o
 
 pub status_to : (ms : Modules) (i : ℕ) (P : Target → Type 0) → ((f : ℕ) → P (Module (Filter f))) → P Bindings → P (next_status ms i)
-status_to ms i P f o = found_or P (has_status ms) (filters_above ms i) Bindings (λ g h x. f g) o
+status_to ms i P f o = found_or P (has_status ms) (reverse (filters_above ms i)) Bindings (λ g h x. f g) o

@@ -17,7 +17,7 @@ use Rattle.stack_rules.specs.declared.Stand.TheVariants as stand
 use Rattle.stack_rules.specs.declared.Thing.{Thing}
 use Rattle.stack_rules.specs.declared.Thing.TheVariants as thing
 use Rattle.stack_rules.specs.Tests.{is_down}
-use Rattle.stack_rules.specs.Net.{Net, after, lists, list_of, without, had_by, kept_by, passed_to, request_of}
+use Rattle.stack_rules.specs.Net.{Net, after, lists, list_of, without, had_by, as_kept, as_passed, request_of}
 use Rattle.stack_rules.specs.Places.{position_of_target, is_crossed, has_clone}
 use Rattle.stack_rules.specs.Work.{bottom, up_work, kept_work, list_work, holder_position, request_work, thing_work, work}
 use Rattle.work_laws.proofs.Sums.{sum_without, sum_taken, sum_changed, sum_last, sum_at_end}
@@ -99,7 +99,7 @@ module _ (net : Net) (cloned : ℕ → Bool) where
   abbrev pub ChangeWeighs : (Option LiveList → Option LiveList) → ℕ → Type 0
   ChangeWeighs change k = (o : Option LiveList) (l : LiveList) → change o ≡ Some l → weight net cloned (thing.List l) ≤ k
 
-  pub passed_weighs : (way : PassWay) (to : Target) → ChangeWeighs (passed_to way to) (passed_work net way to)
+  pub passed_weighs : (way : PassWay) (to : Target) → ChangeWeighs (as_passed way to) (passed_work net way to)
   passed_weighs way to None l e = cc
   passed_weighs way to (Some x) l e =
       let same = passed_same net x way to in
@@ -109,7 +109,7 @@ module _ (net : Net) (cloned : ℕ → Bool) where
       some_same : (x l : LiveList) → Some x ≡ Some l → x ≡ l
       some_same x l f = cc
 
-  kept_weighs : (m : ModuleId) (l k : LiveList) → kept_by m (Some l) ≡ Some k → weight net cloned (thing.List k) ≤ kept_work net (is_down l.direction) m
+  kept_weighs : (m : ModuleId) (l k : LiveList) → as_kept m (Some l) ≡ Some k → weight net cloned (thing.List k) ≤ kept_work net (is_down l.direction) m
   kept_weighs m l k e =
       let most = cond_most (is_crossed l.crossed || cloned l.list.0) (kept_work net (is_down l.direction) m) in
       subst (λ (k : LiveList). weight net cloned (thing.List k) ≤ kept_work net (is_down l.direction) m) (some_same (record l { last = m; stand = stand.Kept m }) k e) most
@@ -120,20 +120,20 @@ module _ (net : Net) (cloned : ℕ → Bool) where
   pub load_pass : (list : ListNo) (way : PassWay) (to : Target) → load (after net (row.Pass list way to)) cloned ≤ load net cloned + passed_work net way to
   load_pass list way to =
       let out = sum_without (weight net cloned) list.0 net.things in
-      let back = sum_at_end (weight net cloned) (without list.0 net.things) (passed_work net way to) (passed_to way to (list_of list.0 (lists net.things))) (passed_weighs way to (list_of list.0 (lists net.things))) in
+      let back = sum_at_end (weight net cloned) (without list.0 net.things) (passed_work net way to) (as_passed way to (list_of list.0 (lists net.things))) (passed_weighs way to (list_of list.0 (lists net.things))) in
       omega (arith, out, back)
 
   pub load_moved : (list : ListNo) (way : PassWay) (to : Target) (l : LiveList) → list_of list.0 (lists net.things) ≡ Some l → load (after net (row.Pass list way to)) cloned + weight net cloned (thing.List l) ≤ load net cloned + passed_work net way to
   load_moved list way to l f =
       let out = sum_taken (weight net cloned) list.0 net.things l f in
-      let back = sum_at_end (weight net cloned) (without list.0 net.things) (passed_work net way to) (passed_to way to (list_of list.0 (lists net.things))) (passed_weighs way to (list_of list.0 (lists net.things))) in
+      let back = sum_at_end (weight net cloned) (without list.0 net.things) (passed_work net way to) (as_passed way to (list_of list.0 (lists net.things))) (passed_weighs way to (list_of list.0 (lists net.things))) in
       omega (arith, out, back)
 
   pub load_keep : (list : ListNo) (m : ModuleId) (l : LiveList) → list_of list.0 (lists net.things) ≡ Some l → load (after net (row.Keep list m)) cloned + weight net cloned (thing.List l) ≤ load net cloned + kept_work net (is_down l.direction) m
   load_keep list m l f =
       let out = sum_taken (weight net cloned) list.0 net.things l f in
-      let weighs : (k : LiveList) → kept_by m (list_of list.0 (lists net.things)) ≡ Some k → weight net cloned (thing.List k) ≤ kept_work net (is_down l.direction) m = λ k. rw f (kept_weighs m l k) in
-      let back = sum_at_end (weight net cloned) (without list.0 net.things) (kept_work net (is_down l.direction) m) (kept_by m (list_of list.0 (lists net.things))) weighs in
+      let weighs : (k : LiveList) → as_kept m (list_of list.0 (lists net.things)) ≡ Some k → weight net cloned (thing.List k) ≤ kept_work net (is_down l.direction) m = λ k. rw f (kept_weighs m l k) in
+      let back = sum_at_end (weight net cloned) (without list.0 net.things) (kept_work net (is_down l.direction) m) (as_kept m (list_of list.0 (lists net.things))) weighs in
       omega (arith, out, back)
 
   -- a new list weighs nothing yet

@@ -1,6 +1,6 @@
 use Rattle.std.proofs.Common.{◌≡◌, map}
 use Rattle.stack_rules.specs.Work.{work}
-use Rattle.stack_runs.specs.Adds.{Adds, AreMoves}
+use Rattle.stack_runs.specs.Adds.{AddsTurns, AreMoves}
 use Rattle.stack_runs.specs.Runs.{IsBetween}
 use Rattle.stack_runs.proofs.pump_all.Given as goal
 
@@ -14,7 +14,7 @@ invariant-loop g l = record {
     protocols = map (λ d. (goal.ProtocolDriver-dyn g (d.vtable, d.value)).state d.value) l.book.protocols.items;
   });
   head : l.book.core.head ≡ l.initial.book.core.head;
-  added : Adds (AreMoves l.who) (record {
+  added : AddsTurns (AreMoves l.who) (record {
     core = l.initial.book.core;
     miniport = (goal.MiniportDriver-dyn g (l.initial.book.miniport.vtable, l.initial.book.miniport.value)).state l.initial.book.miniport.value;
     log_room = (goal.MiniportDriver-dyn g (l.initial.book.miniport.vtable, l.initial.book.miniport.value)).log_room l.initial.book.miniport.value;

@@ -1,12 +1,12 @@
 use Rattle.std.proofs.Common.{inr}
 use Rattle.outside_io.specs.Edges.{AddsPrefix}
-use Rattle.ndis_cli.specs.Answers.{Adds}
+use Rattle.ndis_cli.specs.Answers.{AddsAll}
 use Rattle.ndis_cli.proofs.Answered.{replayed}
 use Rattle.ndis_cli.proofs.top.replay.Goals as goal
 
 pub returns-in-Ok-write_report-clause-done : goal.returns-in-Ok-write_report-clause-done
 returns-in-Ok-write_report-clause-done g c e =
-    replayed Adds _ _ c.args.script.now _ c.in-Ok.journal _ _ c.requires.built c.from_ref.ensures.value c.in-Ok.ensures.run c.in-Ok.ensures.back c.in-Ok-write_report.ensures.whole
+    replayed AddsAll _ _ c.args.script.now _ c.in-Ok.journal _ _ c.requires.built c.from_ref.ensures.value c.in-Ok.ensures.run c.in-Ok.ensures.back c.in-Ok-write_report.ensures.whole
 
 pub returns-in-Err-Failed-clause-cut : goal.returns-in-Err-Failed-clause-cut
 returns-in-Err-Failed-clause-cut g c e =

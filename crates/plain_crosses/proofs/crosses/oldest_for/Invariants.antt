@@ -1,5 +1,5 @@
 use Rattle.std.proofs.Common.{◌≡◌, drop, find}
-use Rattle.stack_rules.specs.Net.{is_for}
+use Rattle.stack_rules.specs.Messages.{is_for}
 use Rattle.plain_crosses.proofs.crosses.oldest_for.Given as goal
 
 abbrev pub invariant-loop-m : goal.invariant-loop-m
