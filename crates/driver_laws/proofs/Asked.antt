@@ -206,7 +206,7 @@ first_append (x ∷ xs) ys p q = (p.0, first_append xs ys p.1 q)
 
 pub asks_first : (script : Script) (head : StackHead) (turns : List Turn) → is_built script ≡ true → IsRun script head turns → AskFirst turns
 asks_first script head turns built run =
-    let parts : IsOpenedAndEnded head [] turns = run.ended in
+    let parts : IsOpenedAndEnded head [] turns = run.ended.ended in
     let calls : AreBuilt (head_of run.stack) script.calls = built_calls script run.stack built run.only in
     let lanes : (lane : LaneNo) → LaneFirst lane.0 (parts.opening ++ (parts.middle ++ parts.last)) =
     λ lane. lane_first script.stacks lane (head_of run.stack) script.calls tails.Ended (turns ∷ []) (parts.opening ++ (parts.middle ++ parts.last)) calls tt (run.followed lane) (ap (λ ts. ts ∷ []) parts.split) in

@@ -38,6 +38,7 @@ use Rattle.promise_rules.specs.Followed as promised
 use Rattle.stack_book.specs.Views.{BookView}
 use Rattle.stack_runs.proofs.Added.{did_turns, none_added}
 use Rattle.stack_runs.specs.Adds.{AddsTurns, Told, AreMoves, ArePumps, IsTail, IsCall, OpensTo, EndsTo, is_refused}
+use Rattle.script_runs.specs.Built.{RunsItsCalls}
 use Rattle.script_runs.specs.Calls.{Makes, MakesAll, Ran}
 use Rattle.script_runs.specs.Built as form
 use Rattle.script_runs.proofs.Laws.{journal_at}
@@ -343,4 +344,11 @@ opened_and_ended head calls a b none w = record {
   opens = opens_as Initialising w.opening w.opens;
   calls = calls_own calls w.middle w.made;
   ends = subst (λ p. promised.Ends (ending_of p) w.last) (sym (ap (λ (ts : List Turn). (seen head (ts ++ (w.opening ++ w.middle))).phase) (sym none) ∙ w.running)) (ends_as ending.Pumping w.last w.ends);
+}
+
+-- and the stack runs until its calls are made
+pub runs_its_calls : (head : StackHead) (calls : List Call) (a b : BookView) → a.core.turns ≡ [] → Ran head calls a b → RunsItsCalls head b.core.turns
+runs_its_calls head calls a b none w = record {
+  ended = opened_and_ended head calls a b none w;
+  running = ap (λ (ts : List Turn). (seen head (ts ++ (w.opening ++ w.middle))).phase) (sym none) ∙ w.running;
 }

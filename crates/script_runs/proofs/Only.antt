@@ -12,7 +12,7 @@ use Rattle.stack_rules.specs.Net.{Net}
 use Rattle.stack_core.specs.Core.{Follows}
 use Rattle.script_runs.specs.Laws.{MeetsLaws}
 use Rattle.script_runs.proofs.Laws.{meets_laws, journal_at}
-use Rattle.script_runs.proofs.Followed.{followed, opened_and_ended, built_calls}
+use Rattle.script_runs.proofs.Followed.{followed, runs_its_calls, built_calls}
 use Rattle.stack_book.specs.Views.{BookView}
 use Rattle.script_runs.specs.Calls.{Ran}
 use Rattle.script_runs.specs.Built as form
@@ -42,5 +42,5 @@ is_run script s stack cs head turns h first a b net rows built same only calls k
       sound = rw eh (rw et f.sound);
       laws = rw eh (rw et laws);
       followed = λ lane. rw et (followed script.stacks h script.calls a b may none whole lane);
-      ended = rw eh (rw et (opened_and_ended h script.calls a b none whole));
+      ended = rw eh (rw et (runs_its_calls h script.calls a b none whole));
     }

@@ -1,9 +1,10 @@
 -- Which scripts can be run, and what their run gives.
-use Rattle.std.specs.Prelude.{◌≡◌, ℕ, ◌==◌, ◌&&◌, Bool, true, false, List, [], ◌∷◌, Option, Some, length}
+use Rattle.std.specs.Prelude.{◌≡◌, ℕ, ◌==◌, ◌&&◌, Bool, true, false, List, [], ◌∷◌, ◌++◌, Option, Some, length}
 use Rattle.std.specs.List.{list_all}
 use Rattle.ndis_base.specs.declared.LaneNo.{LaneNo}
 use Rattle.ndis_base.specs.declared.MiniportKind.{MiniportKind}
 use Rattle.ndis_base.specs.declared.MiniportKind.TheVariants as miniport_kind
+use Rattle.ndis_base.specs.declared.Phase.TheVariants as phase
 use Rattle.ndis_base.specs.declared.ProtocolKind.{ProtocolKind}
 use Rattle.ndis_base.specs.declared.ProtocolKind.TheVariants as protocol_kind
 use Rattle.journal_types.specs.declared.StackHead.{StackHead}
@@ -11,6 +12,7 @@ use Rattle.journal_types.specs.declared.Event.{Event}
 use Rattle.journal_types.specs.declared.Event.TheVariants as event
 use Rattle.journal_types.specs.declared.Turn.{Turn}
 use Rattle.stack_rules.specs.Conditions.{may_ask, is_between}
+use Rattle.stack_rules.specs.Net.{seen}
 use Rattle.stack_rules.specs.Sound.{Sound}
 use Rattle.script_types.specs.declared.Script.{Script}
 use Rattle.script_types.specs.declared.StackSetup.{StackSetup}
@@ -60,6 +62,12 @@ are_built _ calls = false
 abbrev pub is_built : Script → Bool
 is_built s = (s.lanes == 1) && are_built s.stacks s.calls
 
+-- the journal is opened before all calls and ended after them, and the stack runs until they are made: no
+-- driver refuses, so it is initialised
+pub record RunsItsCalls (head : StackHead) (turns : List Turn) : Type 0 where
+  pub ended : IsOpenedAndEnded head [] turns
+  pub running : (seen head (ended.opening ++ ended.middle)).phase ≡ phase.Running
+
 -- the journal of a run: of the script's stack, and sound; it ends Halted, and meets the laws; each lane's
 -- calls stand there once and in order, each with its tail, between the opening and the ending
 pub record IsRun (script : Script) (head : StackHead) (turns : List Turn) : Type 0 where
@@ -69,4 +77,4 @@ pub record IsRun (script : Script) (head : StackHead) (turns : List Turn) : Type
   pub sound : Sound head turns
   pub laws : MeetsLaws head turns
   pub followed : (lane : LaneNo) → IsFollowed script.stacks lane script.calls (turns ∷ [])
-  pub ended : IsOpenedAndEnded head [] turns
+  pub ended : RunsItsCalls head turns
