@@ -1,5 +1,5 @@
-//! Whole reads and writes in memory.
-use crate::{MemorySink, MemorySource, ReadRefusal, read_all, write_whole};
+//! Whole reads and writes in memory, of `outside_io`.
+use outside_io::{MemorySink, MemorySource, ReadRefusal, read_all, write_whole};
 use std::test::Fail;
 
 #[test]

@@ -1,8 +1,8 @@
-//! A small report, written whole.
-use crate::{Refused, write_report};
+//! A small report, written whole, of `run_report`.
 use ndis_base::{Front, LaneNo, MiniportKind, Phase, ProtocolKind};
 use ndis_journal::{BindingSetups, Journal, PortSetup, StackHead, UpperLinks, write_text};
 use outside_io::MemorySink;
+use run_report::{Refused, write_report};
 use std::test::Fail;
 
 #[test]
@@ -42,7 +42,8 @@ fn reports_a_stack_and_refused_calls(rt: HostRuntime) -> Result<(), Fail> {
         front,
     };
     let mut sink = MemorySink::make(alloc, 1000, Vec::new(alloc))?;
-    write_report(alloc, &mut sink, &journals, &[late, early])?;
+    let written = write_report(alloc, &mut sink, &journals, &[late, early]);
+    assert!(rt; written == Ok(()));
     let mut text = Vec::new(alloc);
     for journal in &journals {
         write_text(journal, &mut text)?;
