@@ -135,7 +135,8 @@ fn walk_hold(alloc: Global) -> Result<Option<WalkedStack>, OutOfMemory>
 }
 
 /// The journal of a stack that pauses with a frame in its miniport's ring: it is sound, and each law holds
-/// of it. There is none where an event may not be asked, which the test sees not to be so.
+/// of it. There is none where an event may not be asked, which a test of `unit_tests` sees not
+/// to be so.
 pub fn ring_pause(alloc: Global) -> Result<Option<WalkedStack>, OutOfMemory>
     ensures sound { IfOk result (λ walked. IfSome walked (λ w. Sound w.head w.turns)) }
     ensures laws { IfOk result (λ walked. IfSome walked (λ w. MeetsLaws w.head (take 8 w.turns) (drop 8 w.turns))) }
@@ -150,7 +151,8 @@ pub fn ring_pause(alloc: Global) -> Result<Option<WalkedStack>, OutOfMemory>
 }
 
 /// The journal of a stack that pauses with a frame in its hold filter: it is sound, and each law holds of it.
-/// There is none where an event may not be asked, which the test sees not to be so.
+/// There is none where an event may not be asked, which a test of `unit_tests` sees not
+/// to be so.
 pub fn hold_pause(alloc: Global) -> Result<Option<WalkedStack>, OutOfMemory>
     ensures sound { IfOk result (λ walked. IfSome walked (λ w. Sound w.head w.turns)) }
     ensures laws { IfOk result (λ walked. IfSome walked (λ w. MeetsLaws w.head (take 9 w.turns) (drop 9 w.turns))) }

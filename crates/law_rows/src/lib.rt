@@ -114,8 +114,8 @@ fn see_laws(stack: &WalkedStack)
 }
 
 /// The journal of one frame that is sent: it is sound, and each law holds of it. There is none where
-/// an event may not be asked or the stack isn't Halted at the end, which the test below sees not to
-/// be so.
+/// an event may not be asked or the stack isn't Halted at the end, which a test of `unit_tests` sees
+/// not to be so.
 pub fn one_frame(alloc: Global) -> Result<Option<WalkedStack>, OutOfMemory>
     ensures sound { IfOk result (λ walked. IfSome walked (λ w. Sound w.head w.turns)) }
     ensures laws { IfOk result (λ walked. IfSome walked (λ w. MeetsLaws w.head w.turns)) }
@@ -129,12 +129,4 @@ pub fn one_frame(alloc: Global) -> Result<Option<WalkedStack>, OutOfMemory>
     }
     see_laws(&stack);
     Ok(Some(stack))
-}
-
-#[test]
-fn one_frame_is_walked_to_its_end(rt: HostRuntime) {
-    let Ok(Some(stack)) = one_frame(rt.alloc()) else {
-        panic!(rt; "the journal is not there");
-    };
-    assert_eq!(rt; stack.journal().turns().len(), 16);
 }

@@ -6,8 +6,6 @@ pub mod memory;
 pub mod sink;
 pub mod source;
 pub mod standard;
-#[cfg(test)]
-mod tests;
 
 ghost use Rattle.std.specs.Prelude.{◌≡◌};
 

@@ -3,8 +3,6 @@
 
 pub mod refused;
 pub mod report;
-#[cfg(test)]
-mod tests;
 
 ghost use Rattle.std.specs.Prelude.{◌≡◌};
 
