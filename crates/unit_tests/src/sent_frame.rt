@@ -1,5 +1,5 @@
 //! The journal of one frame that is sent, of `law_rows`.
-use law_rows::one_frame;
+use law_examples::one_frame;
 
 #[test]
 fn one_frame_is_walked_to_its_end(rt: HostRuntime) {

@@ -1,6 +1,6 @@
 //! The two pauses of `drain_rows`.
-use drain_rows::journals::{HOLD_BEGUN, RING_BEGUN, hold_pause, ring_pause};
-use drain_rows::states::work_at;
+use drain_examples::journals::{HOLD_BEGUN, RING_BEGUN, hold_pause, ring_pause};
+use drain_examples::states::work_at;
 use journal_types::Reply;
 use plain_walk::WalkedStack;
 

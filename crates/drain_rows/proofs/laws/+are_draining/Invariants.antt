@@ -1,5 +1,0 @@
-use Rattle.std.proofs.Common.{length}
-use Rattle.drain_rows.proofs.laws.+are_draining.Given as goal
-
-abbrev pub decreases-are_draining : goal.decreases-are_draining
-decreases-are_draining l = length l.turns.now

@@ -1,5 +1,0 @@
-use Rattle.std.proofs.Common.{length}
-use Rattle.drain_rows.proofs.laws.+pauses_and_drains.Given as goal
-
-abbrev pub decreases-pauses_and_drains : goal.decreases-pauses_and_drains
-decreases-pauses_and_drains l = length l.turns.now

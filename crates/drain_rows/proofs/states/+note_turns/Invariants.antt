@@ -1,5 +1,0 @@
-use Rattle.std.proofs.Common.{length}
-use Rattle.drain_rows.proofs.states.+note_turns.Given as goal
-
-abbrev pub decreases-note_turns : goal.decreases-note_turns
-decreases-note_turns l = length l.turns.now

@@ -1,5 +1,0 @@
-use Rattle.stack_rules.specs.Sound.{Sound}
-use Rattle.law_rows.proofs.walk_all.Given as goal
-
-abbrev pub invariant-loop-turn : goal.invariant-loop-turn
-invariant-loop-turn l = Sound l.stack.head l.stack.turns
