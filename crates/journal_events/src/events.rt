@@ -1,229 +1,298 @@
 //! The words of events and replies.
-ghost use Rattle.std.specs.Prelude.{◌≡◌, OnOk, decimal};
-ghost use Rattle.journal_words.specs.Words.{word, spaced};
+ghost use Rattle.std.specs.Prelude.{◌≡◌, OnOk, codes, decimal};
+ghost use Rattle.journal_words.specs.Words.{word, spaced, filter_text, frames_text};
+ghost use Rattle.ndis_base.specs.Names.{phase_text};
+ghost use Rattle.journal_types.specs.declared.Event.TheVariants as event;
 ghost use Rattle.journal_events.specs.Events.{who_words, setup_words, event_words, refusal_words, reply_words};
 
-use journal_types::{Event, Refusal, Reply, Setup};
-use journal_words::line::Line;
+use journal_types::{Event, Frames, Refusal, Reply, Setup};
+use journal_words::page::Page;
 use journal_words::programs::push_program;
 use ndis_base::{
-    OutOfMemory, Who, name_of_filter_kind, name_of_list_status, name_of_oid_kind, name_of_phase,
-    name_of_status_name,
+    CrossNo, FilterKind, ListNo, ListStatus, OidKind, OidValue, OutOfMemory, Phase, StatusName, Who,
+    name_of_filter_kind, name_of_list_status, name_of_oid_kind, name_of_phase, name_of_status_name,
 };
 
-pub fn push_who(line: &mut Line, who: Who) -> Result<(), OutOfMemory>
-    ensures { OnOk result (line.new ≡ spaced line.old (who_words who)) }
+fn push_counted(page: &mut Page, text: &str, number: u64) -> Result<(), OutOfMemory>
+    ensures { OnOk result (page.new ≡ word (word page.old text.now) (decimal number)) }
+{
+    page.word(text)?;
+    page.number(number)
+}
+
+fn push_with_filter(page: &mut Page, text: &str, filter: u64) -> Result<(), OutOfMemory>
+    ensures { OnOk result (page.new ≡ word (word page.old text.now) (filter_text filter)) }
+{
+    page.word(text)?;
+    page.filter(filter)
+}
+
+fn push_with_frames(page: &mut Page, text: &str, frames: &Frames) -> Result<(), OutOfMemory>
+    ensures { OnOk result (page.new ≡ word (word page.old text.now) (frames_text frames.now)) }
+{
+    page.word(text)?;
+    page.frames(frames)
+}
+
+fn push_with_phase(page: &mut Page, text: &str, phase: Phase) -> Result<(), OutOfMemory>
+    ensures { OnOk result (page.new ≡ word (word page.old text.now) (phase_text phase)) }
+{
+    page.word(text)?;
+    page.word(name_of_phase(phase))
+}
+
+pub fn push_who(page: &mut Page, who: Who) -> Result<(), OutOfMemory>
+    ensures { OnOk result (page.new ≡ spaced page.old (who_words who)) }
 {
     match who {
-        Who::Own => line.word("own"),
-        Who::Call(lane) => {
-            line.word("call")?;
-            line.number(u64::from(lane.0))
-        }
-        Who::Help(lane) => {
-            line.word("help")?;
-            line.number(u64::from(lane.0))
-        }
+        Who::Own => page.word("own"),
+        Who::Call(lane) => push_counted(page, "call", u64::from(lane.0)),
+        Who::Help(lane) => push_counted(page, "help", u64::from(lane.0)),
     }
 }
 
-fn push_setup(line: &mut Line, setup: &Setup) -> Result<(), OutOfMemory>
-    ensures { OnOk result (line.new ≡ spaced line.old (setup_words setup.now)) }
+fn push_setup(page: &mut Page, setup: &Setup) -> Result<(), OutOfMemory>
+    ensures { OnOk result (page.new ≡ spaced page.old (setup_words setup.now)) }
 {
-    line.handlers(setup.handlers)?;
-    line.number(setup.pool as u64)?;
-    push_program(line, &setup.send)?;
-    push_program(line, &setup.receive)
+    page.handlers(setup.handlers)?;
+    page.number(setup.pool as u64)?;
+    push_program(page, &setup.send)?;
+    push_program(page, &setup.receive)
 }
 
-pub fn push_event(line: &mut Line, event: &Event) -> Result<(), OutOfMemory>
-    ensures { OnOk result (line.new ≡ spaced line.old (event_words event.now)) }
+fn push_insert(
+    page: &mut Page,
+    kind: FilterKind,
+    position: u8,
+    setup: &Setup,
+) -> Result<(), OutOfMemory>
+    ensures { OnOk result (page.new ≡ spaced page.old (event_words (event.Insert kind position setup.now))) }
+{
+    page.word("insert")?;
+    page.word(name_of_filter_kind(kind))?;
+    page.number(u64::from(position))?;
+    push_setup(page, setup)
+}
+
+fn push_replace(
+    page: &mut Page,
+    filter: u64,
+    kind: FilterKind,
+    setup: &Setup,
+) -> Result<(), OutOfMemory>
+    ensures { OnOk result (page.new ≡ spaced page.old (event_words (event.Replace filter kind setup.now))) }
+{
+    push_with_filter(page, "replace", filter)?;
+    page.word(name_of_filter_kind(kind))?;
+    push_setup(page, setup)
+}
+
+fn push_send(
+    page: &mut Page,
+    binding: u32,
+    cancel: Option<u32>,
+    frames: &Frames,
+) -> Result<(), OutOfMemory>
+    ensures { OnOk result (page.new ≡ spaced page.old (event_words (event.Send binding cancel frames.now))) }
+{
+    page.word("send")?;
+    page.binding(binding)?;
+    page.optional_number(cancel)?;
+    page.frames(frames)
+}
+
+fn push_give_back(page: &mut Page, binding: u32, list: ListNo) -> Result<(), OutOfMemory>
+    ensures { OnOk result (page.new ≡ spaced page.old (event_words (event.GiveBack binding list))) }
+{
+    page.word("giveback")?;
+    page.binding(binding)?;
+    page.number(list.0)
+}
+
+fn push_ask(
+    page: &mut Page,
+    binding: u32,
+    kind: OidKind,
+    code: u32,
+    value: &OidValue,
+) -> Result<(), OutOfMemory>
+    ensures { OnOk result (page.new ≡ spaced page.old (event_words (event.Ask binding kind code value.now))) }
+{
+    page.word("ask")?;
+    page.binding(binding)?;
+    page.word(name_of_oid_kind(kind))?;
+    page.code(code)?;
+    page.value(value)
+}
+
+fn push_status(page: &mut Page, name: StatusName) -> Result<(), OutOfMemory>
+    ensures { OnOk result (page.new ≡ spaced page.old (event_words (event.Status name))) }
+{
+    page.word("status")?;
+    page.word(name_of_status_name(name))
+}
+
+fn push_cross_put(
+    page: &mut Page,
+    stack: u8,
+    message: CrossNo,
+    vlan: u16,
+    frames: &Frames,
+) -> Result<(), OutOfMemory>
+    ensures { OnOk result (page.new ≡ spaced page.old (event_words (event.CrossPut stack message vlan frames.now))) }
+{
+    page.word("cross_put")?;
+    page.number(u64::from(stack))?;
+    page.number(message.0)?;
+    page.number(u64::from(vlan))?;
+    page.frames(frames)
+}
+
+fn push_cross_done(
+    page: &mut Page,
+    message: CrossNo,
+    status: ListStatus,
+) -> Result<(), OutOfMemory>
+    ensures { OnOk result (page.new ≡ spaced page.old (event_words (event.CrossDone message status))) }
+{
+    page.word("cross_done")?;
+    page.number(message.0)?;
+    page.word(name_of_list_status(status))
+}
+
+fn push_cross_take_up(page: &mut Page, binding: u32, vlan: u16) -> Result<(), OutOfMemory>
+    ensures { OnOk result (page.new ≡ spaced page.old (event_words (event.CrossTakeUp binding vlan))) }
+{
+    page.word("cross_take_up")?;
+    page.binding(binding)?;
+    page.number(u64::from(vlan))
+}
+
+fn push_cross_put_up(
+    page: &mut Page,
+    stack: u8,
+    message: CrossNo,
+    frames: &Frames,
+) -> Result<(), OutOfMemory>
+    ensures { OnOk result (page.new ≡ spaced page.old (event_words (event.CrossPutUp stack message frames.now))) }
+{
+    page.word("cross_put_up")?;
+    page.number(u64::from(stack))?;
+    page.number(message.0)?;
+    page.frames(frames)
+}
+
+pub fn push_event(page: &mut Page, event: &Event) -> Result<(), OutOfMemory>
+    ensures { OnOk result (page.new ≡ spaced page.old (event_words event.now)) }
 {
     match event {
-        Event::Initialize => line.word("initialize"),
+        Event::Initialize => page.word("initialize"),
         Event::Insert {
             kind,
             position,
             setup,
-        } => {
-            line.word("insert")?;
-            line.word(name_of_filter_kind(*kind))?;
-            line.number(u64::from(*position))?;
-            push_setup(line, setup)
-        }
-        Event::Remove { filter } => {
-            line.word("remove")?;
-            line.filter(*filter)
-        }
+        } => push_insert(page, *kind, *position, setup),
+        Event::Remove { filter } => push_with_filter(page, "remove", *filter),
         Event::Replace {
             filter,
             kind,
             setup,
-        } => {
-            line.word("replace")?;
-            line.filter(*filter)?;
-            line.word(name_of_filter_kind(*kind))?;
-            push_setup(line, setup)
-        }
+        } => push_replace(page, *filter, *kind, setup),
         Event::Send {
             binding,
             cancel,
             frames,
-        } => {
-            line.word("send")?;
-            line.binding(*binding)?;
-            line.optional_number(*cancel)?;
-            line.frames(frames)
-        }
-        Event::Indicate { frames } => {
-            line.word("indicate")?;
-            line.frames(frames)
-        }
-        Event::Lend { frames } => {
-            line.word("lend")?;
-            line.frames(frames)
-        }
-        Event::GiveBack { binding, list } => {
-            line.word("giveback")?;
-            line.binding(*binding)?;
-            line.number(list.0)
-        }
-        Event::Cancel { id } => {
-            line.word("cancel")?;
-            line.number(u64::from(*id))
-        }
+        } => push_send(page, *binding, *cancel, frames),
+        Event::Indicate { frames } => push_with_frames(page, "indicate", frames),
+        Event::Lend { frames } => push_with_frames(page, "lend", frames),
+        Event::GiveBack { binding, list } => push_give_back(page, *binding, *list),
+        Event::Cancel { id } => push_counted(page, "cancel", u64::from(*id)),
         Event::Ask {
             binding,
             kind,
             code,
             value,
-        } => {
-            line.word("ask")?;
-            line.binding(*binding)?;
-            line.word(name_of_oid_kind(*kind))?;
-            line.code(*code)?;
-            line.value(value)
-        }
-        Event::Status { name } => {
-            line.word("status")?;
-            line.word(name_of_status_name(*name))
-        }
-        Event::Transmit => line.word("transmit"),
-        Event::Pump => line.word("pump"),
-        Event::Drain => line.word("drain"),
-        Event::BeginPause => line.word("begin_pause"),
-        Event::PauseNext => line.word("pause_next"),
-        Event::RestartNext => line.word("restart_next"),
-        Event::Halt => line.word("halt"),
-        Event::CrossTake => line.word("cross_take"),
+        } => push_ask(page, *binding, *kind, *code, value),
+        Event::Status { name } => push_status(page, *name),
+        Event::Transmit => page.word("transmit"),
+        Event::Pump => page.word("pump"),
+        Event::Drain => page.word("drain"),
+        Event::BeginPause => page.word("begin_pause"),
+        Event::PauseNext => page.word("pause_next"),
+        Event::RestartNext => page.word("restart_next"),
+        Event::Halt => page.word("halt"),
+        Event::CrossTake => page.word("cross_take"),
         Event::CrossPut {
             stack,
             message,
             vlan,
             frames,
-        } => {
-            line.word("cross_put")?;
-            line.number(u64::from(*stack))?;
-            line.number(message.0)?;
-            line.number(u64::from(*vlan))?;
-            line.frames(frames)
-        }
-        Event::CrossDone { message, status } => {
-            line.word("cross_done")?;
-            line.number(message.0)?;
-            line.word(name_of_list_status(*status))
-        }
-        Event::CrossTakeUp { binding, vlan } => {
-            line.word("cross_take_up")?;
-            line.binding(*binding)?;
-            line.number(u64::from(*vlan))
-        }
+        } => push_cross_put(page, *stack, *message, *vlan, frames),
+        Event::CrossDone { message, status } => push_cross_done(page, *message, *status),
+        Event::CrossTakeUp { binding, vlan } => push_cross_take_up(page, *binding, *vlan),
         Event::CrossPutUp {
             stack,
             message,
             frames,
-        } => {
-            line.word("cross_put_up")?;
-            line.number(u64::from(*stack))?;
-            line.number(message.0)?;
-            line.frames(frames)
-        }
+        } => push_cross_put_up(page, *stack, *message, frames),
     }
 }
 
-fn push_refusal(line: &mut Line, refusal: Refusal) -> Result<(), OutOfMemory>
-    ensures { OnOk result (line.new ≡ spaced line.old (refusal_words refusal)) }
+fn push_refusal(page: &mut Page, refusal: Refusal) -> Result<(), OutOfMemory>
+    ensures { OnOk result (page.new ≡ spaced page.old (refusal_words refusal)) }
 {
     match refusal {
-        Refusal::WrongPhase { phase } => {
-            line.word("WrongPhase")?;
-            line.word(name_of_phase(phase))
-        }
-        Refusal::InitRefused => line.word("InitRefused"),
-        Refusal::NotPaused => line.word("NotPaused"),
-        Refusal::Busy { n } => {
-            line.word("Busy")?;
-            line.number(n)
-        }
-        Refusal::Full => line.word("Full"),
-        Refusal::BadPosition => line.word("BadPosition"),
-        Refusal::ShelfEmpty => line.word("ShelfEmpty"),
-        Refusal::AttachRefused => line.word("AttachRefused"),
-        Refusal::NoModule => line.word("NoModule"),
-        Refusal::Paused { phase } => {
-            line.word("Paused")?;
-            line.word(name_of_phase(phase))
-        }
-        Refusal::NoList => line.word("NoList"),
-        Refusal::NotRunning => line.word("NotRunning"),
-        Refusal::NotHeld => line.word("NotHeld"),
-        Refusal::Unbound => line.word("Unbound"),
-        Refusal::HaltedNow => line.word("HaltedNow"),
-        Refusal::TooLong => line.word("TooLong"),
-        Refusal::NotTaken => line.word("NotTaken"),
+        Refusal::WrongPhase { phase } => push_with_phase(page, "WrongPhase", phase),
+        Refusal::InitRefused => page.word("InitRefused"),
+        Refusal::NotPaused => page.word("NotPaused"),
+        Refusal::Busy { n } => push_counted(page, "Busy", n),
+        Refusal::Full => page.word("Full"),
+        Refusal::BadPosition => page.word("BadPosition"),
+        Refusal::ShelfEmpty => page.word("ShelfEmpty"),
+        Refusal::AttachRefused => page.word("AttachRefused"),
+        Refusal::NoModule => page.word("NoModule"),
+        Refusal::Paused { phase } => push_with_phase(page, "Paused", phase),
+        Refusal::NoList => page.word("NoList"),
+        Refusal::NotRunning => page.word("NotRunning"),
+        Refusal::NotHeld => page.word("NotHeld"),
+        Refusal::Unbound => page.word("Unbound"),
+        Refusal::HaltedNow => page.word("HaltedNow"),
+        Refusal::TooLong => page.word("TooLong"),
+        Refusal::NotTaken => page.word("NotTaken"),
     }
 }
 
-fn push_counted(line: &mut Line, text: &str, number: u64) -> Result<(), OutOfMemory>
-    ensures { OnOk result (line.new ≡ word (word line.old text.now) (decimal number)) }
+fn push_refused(page: &mut Page, refusal: Refusal) -> Result<(), OutOfMemory>
+    ensures { OnOk result (page.new ≡ spaced (word page.old (codes "refused")) (refusal_words refusal)) }
 {
-    line.word(text)?;
-    line.number(number)
+    page.word("refused")?;
+    push_refusal(page, refusal)
 }
 
-pub fn push_reply(line: &mut Line, reply: &Reply) -> Result<(), OutOfMemory>
-    ensures { OnOk result (line.new ≡ spaced line.old (reply_words reply.now)) }
+pub fn push_reply(page: &mut Page, reply: &Reply) -> Result<(), OutOfMemory>
+    ensures { OnOk result (page.new ≡ spaced page.old (reply_words reply.now)) }
 {
     match reply {
-        Reply::Ok => line.word("ok"),
-        Reply::Inserted { filter } => {
-            line.word("inserted")?;
-            line.filter(*filter)
-        }
-        Reply::Removed => line.word("removed"),
-        Reply::Replaced { filter } => {
-            line.word("replaced")?;
-            line.filter(*filter)
-        }
-        Reply::Sent { list } => push_counted(line, "sent", list.0),
-        Reply::Indicated { list } => push_counted(line, "indicated", list.0),
-        Reply::Lent { list } => push_counted(line, "lent", list.0),
-        Reply::Cancelled { n } => push_counted(line, "cancelled", *n),
-        Reply::Asked { request } => push_counted(line, "asked", request.0),
-        Reply::Wired { list } => push_counted(line, "wired", list.0),
-        Reply::Moved => line.word("moved"),
-        Reply::Idle => line.word("idle"),
-        Reply::Next => line.word("next"),
-        Reply::Paused => line.word("paused"),
-        Reply::Running => line.word("running"),
-        Reply::Waiting { n } => push_counted(line, "waiting", *n),
-        Reply::Halted => line.word("halted"),
-        Reply::Taken { message, .. } => push_counted(line, "taken", message.0),
-        Reply::Nothing => line.word("nothing"),
-        Reply::Crossed { list } => push_counted(line, "crossed", list.0),
-        Reply::Refused(refusal) => {
-            line.word("refused")?;
-            push_refusal(line, *refusal)
-        }
+        Reply::Ok => page.word("ok"),
+        Reply::Inserted { filter } => push_with_filter(page, "inserted", *filter),
+        Reply::Removed => page.word("removed"),
+        Reply::Replaced { filter } => push_with_filter(page, "replaced", *filter),
+        Reply::Sent { list } => push_counted(page, "sent", list.0),
+        Reply::Indicated { list } => push_counted(page, "indicated", list.0),
+        Reply::Lent { list } => push_counted(page, "lent", list.0),
+        Reply::Cancelled { n } => push_counted(page, "cancelled", *n),
+        Reply::Asked { request } => push_counted(page, "asked", request.0),
+        Reply::Wired { list } => push_counted(page, "wired", list.0),
+        Reply::Moved => page.word("moved"),
+        Reply::Idle => page.word("idle"),
+        Reply::Next => page.word("next"),
+        Reply::Paused => page.word("paused"),
+        Reply::Running => page.word("running"),
+        Reply::Waiting { n } => push_counted(page, "waiting", *n),
+        Reply::Halted => page.word("halted"),
+        Reply::Taken { message, .. } => push_counted(page, "taken", message.0),
+        Reply::Nothing => page.word("nothing"),
+        Reply::Crossed { list } => push_counted(page, "crossed", list.0),
+        Reply::Refused(refusal) => push_refused(page, *refusal),
     }
 }

@@ -1,13 +1,16 @@
 //! The words of rows.
-ghost use Rattle.std.specs.Prelude.{◌≡◌, OnOk, map};
-ghost use Rattle.journal_words.specs.Words.{word, spaced, filter_text};
+ghost use Rattle.std.specs.Prelude.{◌≡◌, ◌∷◌, [], OnOk, codes, decimal, map};
+ghost use Rattle.ndis_base.specs.Names.{direction_text};
+ghost use Rattle.journal_types.specs.declared.Row.TheVariants as row;
+ghost use Rattle.journal_words.specs.Words.{word, spaced, module_text, optional_text, filter_text};
 ghost use Rattle.journal_rows.specs.Rows.{handler_text, how_text, way_text, issued_words, pass_words, phase_words, config_words, parent_text, out_words, row_words};
 
 use journal_types::{FilterList, Frames, Handler, How, OutWay, PassWay, PhaseOf, Row, Target, Way};
-use journal_words::line::Line;
+use journal_words::page::Page;
 use ndis_base::{
-    OidNo, Origin, OutOfMemory, name_of_direction, name_of_list_status, name_of_oid_kind,
-    name_of_oid_status, name_of_phase, name_of_state, name_of_status_name,
+    ConfigNo, CrossNo, Direction, ListNo, ListStatus, ModuleId, OidKind, OidNo, OidStatus, OidValue,
+    Origin, OutOfMemory, StatusName, StatusNo, name_of_direction, name_of_list_status,
+    name_of_oid_kind, name_of_oid_status, name_of_phase, name_of_state, name_of_status_name,
 };
 
 fn name_of_handler(handler: Handler) -> &'static str
@@ -40,112 +43,282 @@ fn name_of_way(way: Way) -> &'static str
     }
 }
 
-fn push_issued(line: &mut Line, origin: Origin, frames: &Frames) -> Result<(), OutOfMemory>
-    ensures { OnOk result (line.new ≡ spaced line.old (issued_words origin frames.now)) }
+fn push_issued(page: &mut Page, origin: Origin, frames: &Frames) -> Result<(), OutOfMemory>
+    ensures { OnOk result (page.new ≡ spaced page.old (issued_words origin frames.now)) }
 {
     match origin {
-        Origin::Root => line.word("-")?,
+        Origin::Root => page.word("-")?,
         Origin::Clone(list) => {
-            line.word("clone")?;
-            line.number(list.0)?;
+            page.word("clone")?;
+            page.number(list.0)?;
         }
         Origin::Copy(list) => {
-            line.word("copy")?;
-            line.number(list.0)?;
+            page.word("copy")?;
+            page.number(list.0)?;
         }
     }
-    line.frames(frames)
+    page.frames(frames)
 }
 
-fn push_pass(line: &mut Line, way: PassWay, target: Target) -> Result<(), OutOfMemory>
-    ensures { OnOk result (line.new ≡ spaced line.old (pass_words way target)) }
+fn push_pass(page: &mut Page, way: PassWay, target: Target) -> Result<(), OutOfMemory>
+    ensures { OnOk result (page.new ≡ spaced page.old (pass_words way target)) }
 {
     match way {
         PassWay::Down => {
-            line.word("down")?;
-            line.target(target)
+            page.word("down")?;
+            page.target(target)
         }
         PassWay::Done(status) => {
-            line.word("done")?;
-            line.target(target)?;
-            line.word(name_of_list_status(status))
+            page.word("done")?;
+            page.target(target)?;
+            page.word(name_of_list_status(status))
         }
         PassWay::Up => {
-            line.word("up")?;
-            line.target(target)
+            page.word("up")?;
+            page.target(target)
         }
         PassWay::Back(status) => {
-            line.word("back")?;
-            line.target(target)?;
-            line.word(name_of_list_status(status))
+            page.word("back")?;
+            page.target(target)?;
+            page.word(name_of_list_status(status))
         }
     }
 }
 
-fn push_phase(line: &mut Line, of: PhaseOf) -> Result<(), OutOfMemory>
-    ensures { OnOk result (line.new ≡ spaced line.old (phase_words of)) }
+fn push_phase(page: &mut Page, of: PhaseOf) -> Result<(), OutOfMemory>
+    ensures { OnOk result (page.new ≡ spaced page.old (phase_words of)) }
 {
     match of {
         PhaseOf::Module(module, state) => {
-            line.module(module)?;
-            line.word(name_of_state(state))
+            page.module(module)?;
+            page.word(name_of_state(state))
         }
         PhaseOf::Stack(phase) => {
-            line.word("s")?;
-            line.word(name_of_phase(phase))
+            page.word("s")?;
+            page.word(name_of_phase(phase))
         }
     }
 }
 
-fn push_filters(line: &mut Line, filters: &[u64]) -> Result<(), OutOfMemory>
-    ensures { OnOk result (line.new ≡ spaced line.old (map filter_text filters.now)) }
+fn push_filters(page: &mut Page, filters: &[u64]) -> Result<(), OutOfMemory>
+    ensures { OnOk result (page.new ≡ spaced page.old (map filter_text filters.now)) }
 {
     for filter in filters {
-        line.filter(*filter)?;
+        page.filter(*filter)?;
     }
     Ok(())
 }
 
-fn push_config(line: &mut Line, filters: &FilterList) -> Result<(), OutOfMemory>
-    ensures { OnOk result (line.new ≡ spaced line.old (config_words filters.now)) }
+fn push_config(page: &mut Page, filters: &FilterList) -> Result<(), OutOfMemory>
+    ensures { OnOk result (page.new ≡ spaced page.old (config_words filters.now)) }
 {
     match filters.items() {
-        [] => line.word("-"),
+        [] => page.word("-"),
         [first, more @ ..] => {
-            line.filter(*first)?;
-            push_filters(line, more)
+            page.filter(*first)?;
+            push_filters(page, more)
         }
     }
 }
 
-fn push_parent(line: &mut Line, parent: Option<OidNo>) -> Result<(), OutOfMemory>
-    ensures { OnOk result (line.new ≡ word line.old (parent_text parent)) }
+fn push_parent(page: &mut Page, parent: Option<OidNo>) -> Result<(), OutOfMemory>
+    ensures { OnOk result (page.new ≡ word page.old (parent_text parent)) }
 {
     match parent {
-        None => line.word("-"),
-        Some(request) => line.number(request.0),
+        None => page.word("-"),
+        Some(request) => page.number(request.0),
     }
 }
 
-fn push_out(line: &mut Line, way: OutWay, frames: &Frames) -> Result<(), OutOfMemory>
-    ensures { OnOk result (line.new ≡ spaced line.old (out_words way frames.now)) }
+fn push_out(page: &mut Page, way: OutWay, frames: &Frames) -> Result<(), OutOfMemory>
+    ensures { OnOk result (page.new ≡ spaced page.old (out_words way frames.now)) }
 {
     match way {
         OutWay::Down(list) => {
-            line.word("down")?;
-            line.number(list.0)?;
-            line.frames(frames)
+            page.word("down")?;
+            page.number(list.0)?;
+            page.frames(frames)
         }
         OutWay::Up => {
-            line.word("up")?;
-            line.word("-")?;
-            line.frames(frames)
+            page.word("up")?;
+            page.word("-")?;
+            page.frames(frames)
         }
     }
 }
 
-pub fn push_row(line: &mut Line, row: &Row) -> Result<(), OutOfMemory>
-    ensures { OnOk result (line.new ≡ spaced line.old (row_words row.now)) }
+/// A word and the list that the row is about.
+fn push_list(page: &mut Page, text: &str, list: ListNo) -> Result<(), OutOfMemory>
+    ensures { OnOk result (page.new ≡ word (word page.old text.now) (decimal list.0)) }
+{
+    page.word(text)?;
+    page.number(list.0)
+}
+
+/// What an issued list is, up to its configuration.
+fn push_new_list(
+    page: &mut Page,
+    list: ListNo,
+    owner: ModuleId,
+    config: ConfigNo,
+) -> Result<(), OutOfMemory>
+    ensures { OnOk result (page.new ≡ spaced page.old (codes "issue" ∷ decimal list.0 ∷ module_text owner ∷ decimal config.0 ∷ [])) }
+{
+    push_list(page, "issue", list)?;
+    page.module(owner)?;
+    page.number(config.0)
+}
+
+/// Where an issued list goes, and its frames.
+fn push_issue(
+    page: &mut Page,
+    direction: Direction,
+    cancel: Option<u32>,
+    origin: Origin,
+    frames: &Frames,
+) -> Result<(), OutOfMemory>
+    ensures { OnOk result (page.new ≡ spaced page.old (direction_text direction ∷ optional_text cancel ∷ issued_words origin frames.now)) }
+{
+    page.word(name_of_direction(direction))?;
+    page.optional_number(cancel)?;
+    push_issued(page, origin, frames)
+}
+
+fn push_give(page: &mut Page, list: ListNo, module: ModuleId, handler: Handler) -> Result<(), OutOfMemory>
+    ensures { OnOk result (page.new ≡ spaced page.old (row_words (row.Give list «module» handler))) }
+{
+    push_list(page, "give", list)?;
+    page.module(module)?;
+    page.word(name_of_handler(handler))
+}
+
+fn push_passed(page: &mut Page, list: ListNo, way: PassWay, to: Target) -> Result<(), OutOfMemory>
+    ensures { OnOk result (page.new ≡ spaced page.old (row_words (row.Pass list way to))) }
+{
+    push_list(page, "pass", list)?;
+    push_pass(page, way, to)
+}
+
+fn push_keep(page: &mut Page, list: ListNo, module: ModuleId) -> Result<(), OutOfMemory>
+    ensures { OnOk result (page.new ≡ spaced page.old (row_words (row.Keep list «module»))) }
+{
+    push_list(page, "keep", list)?;
+    page.module(module)
+}
+
+fn push_turn_back(page: &mut Page, list: ListNo, module: ModuleId, status: ListStatus) -> Result<(), OutOfMemory>
+    ensures { OnOk result (page.new ≡ spaced page.old (row_words (row.TurnBack list «module» status))) }
+{
+    push_list(page, "turnback", list)?;
+    page.module(module)?;
+    page.word(name_of_list_status(status))
+}
+
+fn push_home(page: &mut Page, list: ListNo, owner: ModuleId, status: ListStatus) -> Result<(), OutOfMemory>
+    ensures { OnOk result (page.new ≡ spaced page.old (row_words (row.Home list owner status))) }
+{
+    push_list(page, "home", list)?;
+    page.module(owner)?;
+    page.word(name_of_list_status(status))
+}
+
+fn push_wire(page: &mut Page, list: ListNo, frames: &Frames) -> Result<(), OutOfMemory>
+    ensures { OnOk result (page.new ≡ spaced page.old (row_words (row.Wire list frames.now))) }
+{
+    push_list(page, "wire", list)?;
+    page.frames(frames)
+}
+
+fn push_deliver(page: &mut Page, list: ListNo, binding: u32, how: How, frames: &Frames) -> Result<(), OutOfMemory>
+    ensures { OnOk result (page.new ≡ spaced page.old (row_words (row.Deliver list binding how frames.now))) }
+{
+    push_list(page, "deliver", list)?;
+    page.binding(binding)?;
+    page.word(name_of_how(how))?;
+    page.frames(frames)
+}
+
+fn push_phase_row(page: &mut Page, of: PhaseOf) -> Result<(), OutOfMemory>
+    ensures { OnOk result (page.new ≡ spaced page.old (row_words (row.Phase of))) }
+{
+    page.word("phase")?;
+    push_phase(page, of)
+}
+
+fn push_config_row(page: &mut Page, config: ConfigNo, filters: &FilterList) -> Result<(), OutOfMemory>
+    ensures { OnOk result (page.new ≡ spaced page.old (row_words (row.Config config filters.now))) }
+{
+    page.word("config")?;
+    page.number(config.0)?;
+    push_config(page, filters)
+}
+
+fn push_oid_issue(page: &mut Page, request: OidNo, parent: Option<OidNo>, binding: u32, kind: OidKind, code: u32, value: &OidValue) -> Result<(), OutOfMemory>
+    ensures { OnOk result (page.new ≡ spaced page.old (row_words (row.OidIssue request parent binding kind code value.now))) }
+{
+    page.word("oidissue")?;
+    page.number(request.0)?;
+    push_parent(page, parent)?;
+    page.binding(binding)?;
+    page.word(name_of_oid_kind(kind))?;
+    page.code(code)?;
+    page.value(value)
+}
+
+fn push_oid_give(page: &mut Page, request: OidNo, module: ModuleId) -> Result<(), OutOfMemory>
+    ensures { OnOk result (page.new ≡ spaced page.old (row_words (row.OidGive request «module»))) }
+{
+    page.word("oidgive")?;
+    page.number(request.0)?;
+    page.module(module)
+}
+
+fn push_oid_done(page: &mut Page, request: OidNo, status: OidStatus, value: &OidValue) -> Result<(), OutOfMemory>
+    ensures { OnOk result (page.new ≡ spaced page.old (row_words (row.OidDone request status value.now))) }
+{
+    page.word("oiddone")?;
+    page.number(request.0)?;
+    page.word(name_of_oid_status(status))?;
+    page.value(value)
+}
+
+fn push_status(page: &mut Page, number: StatusNo, name: StatusName, to: Target) -> Result<(), OutOfMemory>
+    ensures { OnOk result (page.new ≡ spaced page.old (row_words (row.Status number name to))) }
+{
+    page.word("status")?;
+    page.number(number.0)?;
+    page.word(name_of_status_name(name))?;
+    page.target(to)
+}
+
+fn push_seen(page: &mut Page, number: StatusNo, module: ModuleId) -> Result<(), OutOfMemory>
+    ensures { OnOk result (page.new ≡ spaced page.old (row_words (row.Seen number «module»))) }
+{
+    page.word("seen")?;
+    page.number(number.0)?;
+    page.module(module)
+}
+
+fn push_cross_out(page: &mut Page, message: CrossNo, way: OutWay, frames: &Frames) -> Result<(), OutOfMemory>
+    ensures { OnOk result (page.new ≡ spaced page.old (row_words (row.CrossOut message way frames.now))) }
+{
+    page.word("crossout")?;
+    page.number(message.0)?;
+    push_out(page, way, frames)
+}
+
+fn push_cross_in(page: &mut Page, stack: u8, message: CrossNo, way: Way, frames: &Frames) -> Result<(), OutOfMemory>
+    ensures { OnOk result (page.new ≡ spaced page.old (row_words (row.CrossIn stack message way frames.now))) }
+{
+    page.word("crossin")?;
+    page.number(u64::from(stack))?;
+    page.number(message.0)?;
+    page.word(name_of_way(way))?;
+    page.frames(frames)
+}
+
+pub fn push_row(page: &mut Page, row: &Row) -> Result<(), OutOfMemory>
+    ensures { OnOk result (page.new ≡ spaced page.old (row_words row.now)) }
 {
     match row {
         Row::Issue {
@@ -157,80 +330,35 @@ pub fn push_row(line: &mut Line, row: &Row) -> Result<(), OutOfMemory>
             origin,
             frames,
         } => {
-            line.word("issue")?;
-            line.number(list.0)?;
-            line.module(*owner)?;
-            line.number(config.0)?;
-            line.word(name_of_direction(*direction))?;
-            line.optional_number(*cancel)?;
-            push_issued(line, *origin, frames)
+            push_new_list(page, *list, *owner, *config)?;
+            push_issue(page, *direction, *cancel, *origin, frames)
         }
         Row::Give {
             list,
             module,
             handler,
-        } => {
-            line.word("give")?;
-            line.number(list.0)?;
-            line.module(*module)?;
-            line.word(name_of_handler(*handler))
-        }
-        Row::Pass { list, way, to } => {
-            line.word("pass")?;
-            line.number(list.0)?;
-            push_pass(line, *way, *to)
-        }
-        Row::Keep { list, module } => {
-            line.word("keep")?;
-            line.number(list.0)?;
-            line.module(*module)
-        }
+        } => push_give(page, *list, *module, *handler),
+        Row::Pass { list, way, to } => push_passed(page, *list, *way, *to),
+        Row::Keep { list, module } => push_keep(page, *list, *module),
         Row::TurnBack {
             list,
             module,
             status,
-        } => {
-            line.word("turnback")?;
-            line.number(list.0)?;
-            line.module(*module)?;
-            line.word(name_of_list_status(*status))
-        }
+        } => push_turn_back(page, *list, *module, *status),
         Row::Home {
             list,
             owner,
             status,
-        } => {
-            line.word("home")?;
-            line.number(list.0)?;
-            line.module(*owner)?;
-            line.word(name_of_list_status(*status))
-        }
-        Row::Wire { list, frames } => {
-            line.word("wire")?;
-            line.number(list.0)?;
-            line.frames(frames)
-        }
+        } => push_home(page, *list, *owner, *status),
+        Row::Wire { list, frames } => push_wire(page, *list, frames),
         Row::Deliver {
             list,
             binding,
             how,
             frames,
-        } => {
-            line.word("deliver")?;
-            line.number(list.0)?;
-            line.binding(*binding)?;
-            line.word(name_of_how(*how))?;
-            line.frames(frames)
-        }
-        Row::Phase { of } => {
-            line.word("phase")?;
-            push_phase(line, *of)
-        }
-        Row::Config { config, filters } => {
-            line.word("config")?;
-            line.number(config.0)?;
-            push_config(line, filters)
-        }
+        } => push_deliver(page, *list, *binding, *how, frames),
+        Row::Phase { of } => push_phase_row(page, *of),
+        Row::Config { config, filters } => push_config_row(page, *config, filters),
         Row::OidIssue {
             request,
             parent,
@@ -238,61 +366,25 @@ pub fn push_row(line: &mut Line, row: &Row) -> Result<(), OutOfMemory>
             kind,
             code,
             value,
-        } => {
-            line.word("oidissue")?;
-            line.number(request.0)?;
-            push_parent(line, *parent)?;
-            line.binding(*binding)?;
-            line.word(name_of_oid_kind(*kind))?;
-            line.code(*code)?;
-            line.value(value)
-        }
-        Row::OidGive { request, module } => {
-            line.word("oidgive")?;
-            line.number(request.0)?;
-            line.module(*module)
-        }
+        } => push_oid_issue(page, *request, *parent, *binding, *kind, *code, value),
+        Row::OidGive { request, module } => push_oid_give(page, *request, *module),
         Row::OidDone {
             request,
             status,
             value,
-        } => {
-            line.word("oiddone")?;
-            line.number(request.0)?;
-            line.word(name_of_oid_status(*status))?;
-            line.value(value)
-        }
-        Row::Status { number, name, to } => {
-            line.word("status")?;
-            line.number(number.0)?;
-            line.word(name_of_status_name(*name))?;
-            line.target(*to)
-        }
-        Row::Seen { number, module } => {
-            line.word("seen")?;
-            line.number(number.0)?;
-            line.module(*module)
-        }
+        } => push_oid_done(page, *request, *status, value),
+        Row::Status { number, name, to } => push_status(page, *number, *name, *to),
+        Row::Seen { number, module } => push_seen(page, *number, *module),
         Row::CrossOut {
             message,
             way,
             frames,
-        } => {
-            line.word("crossout")?;
-            line.number(message.0)?;
-            push_out(line, *way, frames)
-        }
+        } => push_cross_out(page, *message, *way, frames),
         Row::CrossIn {
             stack,
             message,
             way,
             frames,
-        } => {
-            line.word("crossin")?;
-            line.number(u64::from(*stack))?;
-            line.number(message.0)?;
-            line.word(name_of_way(*way))?;
-            line.frames(frames)
-        }
+        } => push_cross_in(page, *stack, *message, *way, frames),
     }
 }

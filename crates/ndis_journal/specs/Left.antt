@@ -33,7 +33,9 @@ IsWithin journal (Bindings number bindings) = number + length bindings.now ≡ l
 IsWithin journal (Rows rows before turns) = before + length turns.now ≡ length journal.turns
 IsWithin journal Done = Unit {0}
 
--- these lines are one line, and those that are left at a stage behind it
-pub record Follows (journal : Written) (old : List (List ℕ)) (line : List ℕ) (stage : Stage) : Type 0 where
+-- these lines are one line, which was added to a text, and those that are left at a stage behind it
+pub record Follows (journal : Written) (old : List (List ℕ)) (before after : List ℕ) (stage : Stage) : Type 0 where
+  pub line : List ℕ
   pub is : old ≡ line ∷ lines_left journal stage
+  pub added : after ≡ before ++ line
   pub within : IsWithin journal stage

@@ -14,4 +14,4 @@ pub use journal_types::{
     Asked, BindingSetups, Event, FilterList, Frames, Handler, How, OutWay, PassWay,
     PhaseOf, PortSetup, Refusal, Reply, Row, Rows, Setup, StackHead, Target, Turn, UpperLinks, Way,
 };
-pub use journal_words::Line;
+pub use journal_words::Page;

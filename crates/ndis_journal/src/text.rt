@@ -1,20 +1,22 @@
 //! The text of journals.
-ghost use Rattle.std.specs.Prelude.{◌≡◌, ℕ, ◌++◌, ◌∷◌, [], length, take, IfOk, OnErr, OnOk, MatchOption};
+ghost use Rattle.std.specs.Prelude.{◌≡◌, ◌++◌, [], length, take, OnErr, OnOk};
 ghost use Rattle.std.specs.List.{concat};
 ghost use Rattle.ndis_journal.specs.Text.{lines, text};
 
 use crate::lines::Lines;
 use journal_store::Journal;
+use journal_words::page::Page;
 use ndis_base::OutOfMemory;
-use std::alloc::Global;
 
-/// Adds the lines that are left.
-fn push_lines(alloc: Global, lines: &mut Lines<'_>, out: &mut Vec<u8>) -> Result<(), OutOfMemory>
+/// Adds the lines that are left, each over a page that is empty at its beginning.
+fn push_lines(page: &mut Page, lines: &mut Lines<'_>, out: &mut Vec<u8>) -> Result<(), OutOfMemory>
+    requires { page.old ≡ [] }
     ensures whole { OnOk result (out.new.items ≡ out.old.items ++ concat lines.old) }
     ensures grows { take (length out.old.items) out.new.items ≡ out.old.items }
 {
-    while let Some(line) = lines.next_line(alloc)? {
-        out.extend_from_slice(line.bytes())?;
+    while lines.push_next(page)? {
+        out.extend_from_slice(page.bytes())?;
+        page.clear();
     }
     Ok(())
 }
@@ -27,7 +29,8 @@ pub fn write_text(journal: &Journal, out: &mut Vec<u8>) -> Result<(), OutOfMemor
     let alloc = *out.allocator();
     let start = out.len();
     let mut lines = Lines::of(journal);
-    match push_lines(alloc, &mut lines, out) {
+    let mut page = Page::empty(alloc);
+    match push_lines(&mut page, &mut lines, out) {
         Ok(()) => Ok(()),
         Err(OutOfMemory) => {
             out.truncate(start);

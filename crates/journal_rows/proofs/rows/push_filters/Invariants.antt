@@ -3,4 +3,4 @@ use Rattle.journal_words.specs.Words.{spaced, filter_text}
 use Rattle.journal_rows.proofs.rows.push_filters.Given as goal
 
 abbrev pub invariant-loop-filter : goal.invariant-loop-filter
-invariant-loop-filter l = l.line ≡ spaced l.initial.line (map filter_text (take l.filter-index l.filters))
+invariant-loop-filter l = l.page ≡ spaced l.initial.page (map filter_text (take l.filter-index l.filters))

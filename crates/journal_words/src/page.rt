@@ -1,7 +1,7 @@
-//! A line of text that is being written, word by word.
-ghost use Rattle.std.specs.Prelude.{◌≡◌, ◌/◌, ◌%◌, ◌<◌, ◌++◌, [], OnOk, codes, decimal, false, if◌then◌else◌};
+//! Text that is being written, word by word.
+ghost use Rattle.std.specs.Prelude.{◌≡◌, ◌*◌, ◌/◌, ◌%◌, ◌<◌, ◌≤◌, ◌++◌, [], OnOk, IfOk, codes, decimal, false, length, if◌then◌else◌};
 ghost use Rattle.std.specs.Fmt.{digit_glyph};
-ghost use Rattle.journal_words.specs.Words.{word, hex, hex_text, value_text, code_text, frames_text, more_frames_text, optional_text, filter_text, binding_text, module_text, target_text, handlers_text};
+ghost use Rattle.journal_words.specs.Words.{word, hex_text, value_text, code_text, frames_text, more_frames_text, optional_text, filter_text, binding_text, module_text, target_text, handlers_text};
 
 use itoa::Buffer;
 use journal_types::{Frames, Target};
@@ -9,6 +9,12 @@ use ndis_base::{Frame, Handlers, ModuleId, OidValue, OutOfMemory};
 use std::alloc::Global;
 use std::marker::Model;
 
+/// So many bytes are turned into hexadecimal at once.
+const BLOCK: usize = 64;
+
+const DIGITS: usize = 128;
+
+#[inline(always)]
 fn digit_of(number: u8) -> u8
     requires { number < 16 }
     ensures { result ≡ digit_glyph false number }
@@ -20,35 +26,62 @@ fn digit_of(number: u8) -> u8
     }
 }
 
-/// A line of text, seen as its bytes. Where memory runs out while a word is written, the line holds
-/// a part of the word.
+/// Writes bytes in hexadecimal over a text of just that length.
+#[inline(always)]
+fn write_hex(text: &mut [u8], bytes: &[u8])
+    requires { length text.old ≡ 2 * length bytes.now }
+    ensures { text.new ≡ hex_text bytes.now }
+{
+    for (i, byte) in bytes.iter().enumerate() {
+        text[2 * i] = digit_of(*byte / 16);
+        text[2 * i + 1] = digit_of(*byte % 16);
+    }
+}
+
+/// A page of text, seen as its bytes, that is emptied and used again once it is written elsewhere.
+/// Where memory runs out while words are added, the page has a part of them behind what it had.
 #[derive(Drop)]
-pub struct Line {
+pub struct Page {
     bytes: Vec<u8>,
 }
 
-impl Model for Line {
+impl Model for Page {
     ghost use Rattle.std.specs.Prelude.{List, ℕ};
 
     ghost Value = { List ℕ };
 
-    ghost view = { λ l. l.bytes.items };
+    ghost view = { λ p. p.bytes.items };
 }
 
-impl Line {
-    /// A line without text. It takes no memory.
-    pub fn empty(alloc: Global) -> Line
+impl Page {
+    /// An empty page. It takes no memory.
+    pub fn empty(alloc: Global) -> Page
         ensures { result ≡ [] }
     {
-        Line {
+        Page {
             bytes: Vec::new(alloc),
         }
+    }
+
+    /// An empty page with room for so many bytes, which takes no more memory until it has them.
+    pub fn with_room(alloc: Global, room: usize) -> Result<Page, OutOfMemory>
+        ensures { IfOk result (λ p. p ≡ []) }
+    {
+        let bytes = Vec::with_capacity(alloc, room)?;
+        Ok(Page { bytes })
     }
 
     pub fn bytes(&self) -> &[u8]
         ensures { result.now ≡ self.now }
     {
         self.bytes.as_slice()
+    }
+
+    /// Takes all text from the page, which keeps its memory.
+    pub fn clear(&mut self)
+        ensures { self.new ≡ [] }
+    {
+        self.bytes.clear();
     }
 
     /// Adds a text as it is.
@@ -67,11 +100,14 @@ impl Line {
         self.text(digits.format(number))
     }
 
-    fn hex_byte(&mut self, byte: u8) -> Result<(), OutOfMemory>
-        ensures { OnOk result (self.new ≡ self.old ++ hex byte) }
+    fn hex_block(&mut self, bytes: &[u8]) -> Result<(), OutOfMemory>
+        requires { length bytes.now ≤ 64 }
+        ensures { OnOk result (self.new ≡ self.old ++ hex_text bytes.now) }
     {
-        let digits = [digit_of(byte / 16), digit_of(byte % 16)];
-        self.bytes.extend_from_slice(&digits)?;
+        let mut digits = [0; DIGITS];
+        let text = &mut digits[..2 * bytes.len()];
+        write_hex(text, bytes);
+        self.bytes.extend_from_slice(text)?;
         Ok(())
     }
 
@@ -79,8 +115,11 @@ impl Line {
     pub fn hex(&mut self, bytes: &[u8]) -> Result<(), OutOfMemory>
         ensures { OnOk result (self.new ≡ self.old ++ hex_text bytes.now) }
     {
-        for byte in bytes {
-            self.hex_byte(*byte)?;
+        let mut rest = bytes;
+        while !rest.is_empty() {
+            let (block, more) = rest.split_at(rest.len().min(BLOCK));
+            self.hex_block(block)?;
+            rest = more;
         }
         Ok(())
     }
