@@ -1,6 +1,4 @@
-//! Reads faulty scripts, each from its file, and prints the fault of each.
-#![tactic(auto)]
-
+//! Faulty scripts, each from its file, and the fault of each.
 use anyhow::Result;
 use script_file::{ScriptCause, ScriptFault, ScriptPlace, read_script};
 use std::alloc::{AllocError, Global};
@@ -9,7 +7,8 @@ use std::fs;
 /// How many faulty scripts there are, from 1 on.
 const SCRIPTS: usize = 96;
 
-fn name_of_cause(cause: ScriptCause) -> &'static str {
+/// The name of a cause.
+pub fn name_of_cause(cause: ScriptCause) -> &'static str {
     match cause {
         ScriptCause::TooLong => "TooLong",
         ScriptCause::NotJson => "NotJson",
@@ -45,12 +44,13 @@ fn line_of(alloc: Global, bytes: &[u8]) -> std::result::Result<String, AllocErro
     }
 }
 
-fn main(rt: HostRuntime) -> Result<()> {
+/// Prints the fault of each faulty script.
+pub fn tell_faults(rt: &HostRuntime) -> Result<()> {
     let alloc = rt.alloc();
     for script in 0..SCRIPTS {
         let number = script + 1;
         let path = format!(in alloc; "fault-{number}.script")?;
-        let bytes = fs::read(&rt, path.as_str())?;
+        let bytes = fs::read(rt, path.as_str())?;
         let line = line_of(alloc, &bytes)?;
         println!(rt; "{line}")?;
     }

@@ -1,11 +1,8 @@
-//! Reads scripts that differ in one number, at both ends of its range and one past each, and scripts
-//! with frames and texts of several lengths, and prints what each reading answers.
-#![tactic(auto)]
-
-mod table;
-
-use crate::table::{LIMITS, Limit};
-use script_file::{ScriptCause, ScriptFault, read_script};
+//! Scripts that differ in one number, at both ends of its range and one past each, and scripts with
+//! frames and texts of several lengths, and what each reading answers.
+use crate::faults::name_of_cause;
+use crate::table::{LIMITS, Limit, SEND};
+use script_file::{ScriptFault, read_script};
 use std::alloc::{AllocError, Global};
 
 // What JSON readers may differ in: numbers that are held as floats, a number that no float holds, and
@@ -23,16 +20,7 @@ fn name_of_answer(alloc: Global, text: &str) -> &'static str {
     match read_script(alloc, text.as_bytes()) {
         Ok(_) => "fine",
         Err(ScriptFault::Memory) => "out of memory",
-        Err(ScriptFault::Bad { cause, .. }) => match cause {
-            ScriptCause::Range => "Range",
-            ScriptCause::FrameLength => "FrameLength",
-            ScriptCause::TooMany => "TooMany",
-            ScriptCause::BadLink => "BadLink",
-            ScriptCause::Shape => "Shape",
-            ScriptCause::TooLong => "TooLong",
-            ScriptCause::NotJson => "NotJson",
-            _ => "another fault",
-        },
+        Err(ScriptFault::Bad { cause, .. }) => name_of_cause(cause),
     }
 }
 
@@ -62,7 +50,7 @@ fn text_of_frame(alloc: Global, bytes: usize) -> std::result::Result<String, All
     for _ in 0..bytes {
         digits.push_str("5a")?;
     }
-    let before = table::SEND;
+    let before = SEND;
     format!(in alloc; "{before}\"cancel\":1,\"frames\":[\"{digits}\"]}}]}}")
 }
 
@@ -104,7 +92,8 @@ fn cut_answer(alloc: Global) -> std::result::Result<&'static str, AllocError> {
     Ok(name_of_answer(alloc, text.as_str()))
 }
 
-fn main(rt: HostRuntime) -> anyhow::Result<()> {
+/// Prints what each reading answers.
+pub fn tell_limits(rt: &HostRuntime) -> anyhow::Result<()> {
     let alloc = rt.alloc();
     for limit in &LIMITS {
         let line = line_of(alloc, limit)?;

@@ -1,6 +1,4 @@
-//! Reads scripts, each from its file, and prints each as it is written.
-#![tactic(auto)]
-
+//! Scripts, each from its file, as they are written.
 use anyhow::Result;
 use script_file::{read_script, write_script};
 use std::alloc::Global;
@@ -14,10 +12,11 @@ fn text_of(alloc: Global, bytes: &[u8]) -> Option<Vec<u8>> {
     write_script(alloc, &script).ok()
 }
 
-fn main(rt: HostRuntime) -> Result<()> {
+/// Prints each script as it is written.
+pub fn tell_texts(rt: &HostRuntime) -> Result<()> {
     let alloc = rt.alloc();
     for file in FILES {
-        let bytes = fs::read(&rt, file)?;
+        let bytes = fs::read(rt, file)?;
         match text_of(alloc, &bytes) {
             Some(text) => match std::str::from_utf8(&text) {
                 Ok(text) => println!(rt; "{text}")?,
