@@ -5,12 +5,7 @@ use Rattle.std.proofs.lemmas.List.{drop_more, take-append-le, take_all}
 use Rattle.std.proofs.Math.Seq.{take-append-add, take-append_seam}
 use Rattle.outside_io.specs.Edges.{after, AddsPrefix}
 use Rattle.outside_io.proofs.Pieces.{after-more}
-
--- A text of which a part is written: what was held at first and is held now, the rest, and the whole.
-pub record Wrote (was held : Option (List ℕ)) (rest whole : List ℕ) : Type 0 where
-  pub written : List ℕ
-  pub is : held ≡ after was written
-  pub all : written ++ rest ≡ whole
+use Rattle.run_report.specs.Report.{Wrote}
 
 -- nothing is written yet
 pub wrote-none : (was : Option (List ℕ)) (whole : List ℕ) → Wrote was was whole whole
@@ -72,38 +67,20 @@ wrote-last was held now piece whole w part =
 pub rest-more : {X : Type 0} (f : X → List ℕ) (xs : List X) (i : ℕ) (x d : X) → i < length xs → x ≡ slice_index_or xs i d → flat_map f (drop i xs) ≡ f x ++ flat_map f (drop (i + 1) xs)
 rest-more f xs i x d h e = ap (flat_map f) (drop_more xs i d h ∙ ap (λ y. y ∷ drop (i + 1) xs) (sym e))
 
--- the text of the next item is written
-pub wrote-item : {X : Type 0} (f : X → List ℕ) (xs : List X) (i : ℕ) (x d : X) (was held now : Option (List ℕ)) (whole : List ℕ) → i < length xs → x ≡ slice_index_or xs i d → Wrote was held (flat_map f (drop i xs)) whole → now ≡ after held (f x) → Wrote was now (flat_map f (drop (i + 1) xs)) whole
-wrote-item f xs i x d was held now whole h e w n =
-    let P : List ℕ → Type 0 = λ rest. Wrote was held rest whole in
-    wrote-next was held now (f x) (flat_map f (drop (i + 1) xs)) whole (subst P (rest-more f xs i x d h e) w) n
+-- what was gathered is written, or a part of it
+pub wrote-more : (was held now : Option (List ℕ)) (page left rest whole : List ℕ) → Wrote was held (page ++ rest) whole → Wrote held now left page → Wrote was now (left ++ rest) whole
+wrote-more was held now page left rest whole w v = record {
+  written = w.written ++ v.written;
+  is = after-more was held now w.written v.written w.is v.is;
+  all = append_assoc w.written v.written (left ++ rest) ∙ ap (λ xs. w.written ++ xs) (sym (append_assoc v.written left rest) ∙ ap (λ xs. xs ++ rest) v.all) ∙ w.all;
+}
 
--- a part of the text of the next item is written
-pub wrote-in-item : {X : Type 0} (f : X → List ℕ) (xs : List X) (i : ℕ) (x d : X) (was held now : Option (List ℕ)) (whole : List ℕ) → i < length xs → x ≡ slice_index_or xs i d → Wrote was held (flat_map f (drop i xs)) whole → AddsPrefix held now (f x) → AddsPrefix was now whole
-wrote-in-item f xs i x d was held now whole h e w n =
-    let P : List ℕ → Type 0 = λ rest. Wrote was held rest whole in
-    wrote-part was held now (f x) (flat_map f (drop (i + 1) xs)) whole (subst P (rest-more f xs i x d h e) w) n
+-- a whole page is written
+pub wrote-page : (was now : Option (List ℕ)) (page left : List ℕ) → now ≡ after was page → left ≡ [] → Wrote was now left page
+wrote-page was now page left e f = record { written = page; is = e; all = ap (λ xs. page ++ xs) f ∙ append-nil page }
 
--- the next line is written
-pub wrote-line : (was held now : Option (List ℕ)) (line piece : List ℕ) (lines rest : List (List ℕ)) (whole : List ℕ) → lines ≡ line ∷ rest → piece ≡ line → Wrote was held (concat lines) whole → now ≡ after held piece → Wrote was now (concat rest) whole
-wrote-line was held now line piece lines rest whole e s w n =
-    let P : List (List ℕ) → Type 0 = λ ls. Wrote was held (concat ls) whole in
-    wrote-next was held now line (concat rest) whole (subst P e w) (n ∙ ap (after held) s)
+-- the next line is on the page
+pub line-on : (page now : List ℕ) (lines left : List (List ℕ)) → now ≡ page ++ concat (take 1 lines) → left ≡ drop 1 lines → page ++ concat lines ≡ now ++ concat left
+line-on page now [] left e f = ap (λ xs. page ++ xs) (sym (append-nil (concat []))) ∙ sym (append_assoc page [] (concat [])) ∙ ap (λ xs. (page ++ []) ++ concat xs) (sym f) ∙ ap (λ xs. xs ++ concat left) (sym e)
+line-on page now (line ∷ lines) left e f = ?
 
--- a part of the next line is written
-pub wrote-in-line : (was held now : Option (List ℕ)) (line piece : List ℕ) (lines rest : List (List ℕ)) (whole : List ℕ) → lines ≡ line ∷ rest → piece ≡ line → Wrote was held (concat lines) whole → AddsPrefix held now piece → AddsPrefix was now whole
-wrote-in-line was held now line piece lines rest whole e s w part =
-    let P : List (List ℕ) → Type 0 = λ ls. Wrote was held (concat ls) whole in
-    let Q : List ℕ → Type 0 = λ text. AddsPrefix held now text in
-    wrote-part was held now line (concat rest) whole (subst P e w) (subst Q s part)
-
--- the first of two texts is written, and of the second at least a part
-pub second-part : {T E : Type 0} (r : Result T E) (was held now : Option (List ℕ)) (first second given : List ℕ) → given ≡ second → held ≡ after was first → OnErr r (AddsPrefix held now given) → OnErr r (AddsPrefix was now (first ++ second))
-second-part (Ok x) was held now first second given s h part = tt
-second-part (Err e) was held now first second given s h part =
-    let Q : List ℕ → Type 0 = λ text. AddsPrefix held now text in
-    wrote-last was held now second (first ++ second) (wrote-next was was held first second (first ++ second) (wrote-none was (first ++ second)) h) (subst Q s part)
-
-pub on-err : {T E P : Type 0} (r : Result T E) → P → OnErr r P
-on-err (Ok x) p = tt
-on-err (Err e) p = p
