@@ -61,7 +61,11 @@ fn write_full<K: Sink>(sink: &mut K, page: &mut Page) -> Result<(), Failed>
 }
 
 /// Adds the lines that are left to the page, and writes it where it is full.
-fn write_lines<K: Sink>(sink: &mut K, page: &mut Page, lines: &mut Lines<'_>) -> Result<(), ReportFault>
+fn write_lines<K: Sink>(
+    sink: &mut K,
+    page: &mut Page,
+    lines: &mut Lines<'_>,
+) -> Result<(), ReportFault>
     ensures whole { OnOk result (Wrote (K.holds sink.old) (K.holds sink.new) page.new (page.old ++ concat lines.old)) }
     ensures prefix { OnErr result (AddsPrefix (K.holds sink.old) (K.holds sink.new) (page.old ++ concat lines.old)) }
     ensures failed { result ≡ Err ReportFault.Failed → Rose (K.faults sink.old) (K.faults sink.new) }
@@ -74,7 +78,11 @@ fn write_lines<K: Sink>(sink: &mut K, page: &mut Page, lines: &mut Lines<'_>) ->
 }
 
 /// Adds the text of a journal.
-fn write_journal<K: Sink>(sink: &mut K, page: &mut Page, journal: &Journal) -> Result<(), ReportFault>
+fn write_journal<K: Sink>(
+    sink: &mut K,
+    page: &mut Page,
+    journal: &Journal,
+) -> Result<(), ReportFault>
     ensures whole { OnOk result (Wrote (K.holds sink.old) (K.holds sink.new) page.new (page.old ++ text journal.now)) }
     ensures prefix { OnErr result (AddsPrefix (K.holds sink.old) (K.holds sink.new) (page.old ++ text journal.now)) }
     ensures failed { result ≡ Err ReportFault.Failed → Rose (K.faults sink.old) (K.faults sink.new) }
@@ -84,7 +92,11 @@ fn write_journal<K: Sink>(sink: &mut K, page: &mut Page, journal: &Journal) -> R
     write_lines(sink, page, &mut lines)
 }
 
-fn write_journals<K: Sink>(sink: &mut K, page: &mut Page, journals: &[Journal]) -> Result<(), ReportFault>
+fn write_journals<K: Sink>(
+    sink: &mut K,
+    page: &mut Page,
+    journals: &[Journal],
+) -> Result<(), ReportFault>
     ensures whole { OnOk result (Wrote (K.holds sink.old) (K.holds sink.new) page.new (page.old ++ flat_map text journals.now)) }
     ensures prefix { OnErr result (AddsPrefix (K.holds sink.old) (K.holds sink.new) (page.old ++ flat_map text journals.now)) }
     ensures failed { result ≡ Err ReportFault.Failed → Rose (K.faults sink.old) (K.faults sink.new) }
@@ -96,7 +108,11 @@ fn write_journals<K: Sink>(sink: &mut K, page: &mut Page, journals: &[Journal]) 
     Ok(())
 }
 
-fn write_refusal<K: Sink>(sink: &mut K, page: &mut Page, refused: &Refused) -> Result<(), ReportFault>
+fn write_refusal<K: Sink>(
+    sink: &mut K,
+    page: &mut Page,
+    refused: &Refused,
+) -> Result<(), ReportFault>
     ensures whole { OnOk result (Wrote (K.holds sink.old) (K.holds sink.new) page.new (page.old ++ refused_line refused.now)) }
     ensures prefix { OnErr result (AddsPrefix (K.holds sink.old) (K.holds sink.new) (page.old ++ refused_line refused.now)) }
     ensures failed { result ≡ Err ReportFault.Failed → Rose (K.faults sink.old) (K.faults sink.new) }
@@ -107,7 +123,11 @@ fn write_refusal<K: Sink>(sink: &mut K, page: &mut Page, refused: &Refused) -> R
     Ok(())
 }
 
-fn write_refusals<K: Sink>(sink: &mut K, page: &mut Page, refused: &[Refused]) -> Result<(), ReportFault>
+fn write_refusals<K: Sink>(
+    sink: &mut K,
+    page: &mut Page,
+    refused: &[Refused],
+) -> Result<(), ReportFault>
     ensures whole { OnOk result (Wrote (K.holds sink.old) (K.holds sink.new) page.new (page.old ++ flat_map refused_line refused.now)) }
     ensures prefix { OnErr result (AddsPrefix (K.holds sink.old) (K.holds sink.new) (page.old ++ flat_map refused_line refused.now)) }
     ensures failed { result ≡ Err ReportFault.Failed → Rose (K.faults sink.old) (K.faults sink.new) }
@@ -120,7 +140,12 @@ fn write_refusals<K: Sink>(sink: &mut K, page: &mut Page, refused: &[Refused]) -
 }
 
 /// Adds the journal of each stack, and then the refused calls.
-fn write_parts<K: Sink>(sink: &mut K, page: &mut Page, journals: &[Journal], refused: &[Refused]) -> Result<(), ReportFault>
+fn write_parts<K: Sink>(
+    sink: &mut K,
+    page: &mut Page,
+    journals: &[Journal],
+    refused: &[Refused],
+) -> Result<(), ReportFault>
     ensures whole { OnOk result (Wrote (K.holds sink.old) (K.holds sink.new) page.new (page.old ++ (flat_map text journals.now ++ flat_map refused_line refused.now))) }
     ensures prefix { OnErr result (AddsPrefix (K.holds sink.old) (K.holds sink.new) (page.old ++ (flat_map text journals.now ++ flat_map refused_line refused.now))) }
     ensures failed { result ≡ Err ReportFault.Failed → Rose (K.faults sink.old) (K.faults sink.new) }
