@@ -25,8 +25,11 @@ vlan_words (Some vlan) = codes "vlan" ∷ decimal vlan ∷ []
 abbrev pub port_words : PortSetup → List (List ℕ)
 port_words port = codes "address" ∷ hex_text port.address ∷ codes "ring" ∷ decimal port.ring ∷ codes "pool" ∷ decimal port.pool ∷ []
 
+abbrev pub stack_words : StackHead → List (List ℕ)
+stack_words head = decimal head.stack ∷ codes "miniport" ∷ miniport_kind_text head.kind ∷ []
+
 unfoldable pub head_line : StackHead → List ℕ
-head_line head = spaced (spaced (spaced (spaced (codes "stack") (decimal head.stack ∷ codes "miniport" ∷ miniport_kind_text head.kind ∷ [])) (port_words head.port)) (link_words head.link)) (vlan_words head.port.vlan) ++ codes "\n"
+head_line head = spaced (spaced (spaced (spaced (codes "stack") (stack_words head)) (port_words head.port)) (link_words head.link)) (vlan_words head.port.vlan) ++ codes "\n"
 
 unfoldable pub binding_line : ℕ → ProtocolKind × ℕ → List ℕ
 binding_line number setup = spaced (codes "binding") (binding_text number ∷ protocol_kind_text setup.0 ∷ codes "pool" ∷ decimal setup.1 ∷ []) ++ codes "\n"
@@ -48,8 +51,12 @@ abbrev pub turn_lines : ℕ → List Turn → List (List ℕ)
 turn_lines number [] = []
 turn_lines number (turn ∷ turns) = turn_line number turn ∷ (map row_line turn.rows ++ turn_lines (number + 1) turns)
 
+-- how many turns a journal has, and how many rows of the kinds that are counted
+abbrev pub count_words : List Turn → List (List ℕ)
+count_words turns = codes "turns" ∷ decimal (length turns) ∷ codes "lists" ∷ decimal (rows_of is_issue turns) ∷ codes "homes" ∷ decimal (rows_of is_home turns) ∷ codes "wires" ∷ decimal (rows_of is_wire turns) ∷ codes "delivers" ∷ decimal (rows_of is_deliver turns) ∷ []
+
 unfoldable pub end_line : StackHead → List Turn → List ℕ
-end_line head turns = spaced (codes "end") (codes "stack" ∷ decimal head.stack ∷ codes "turns" ∷ decimal (length turns) ∷ codes "lists" ∷ decimal (rows_of is_issue turns) ∷ codes "homes" ∷ decimal (rows_of is_home turns) ∷ codes "wires" ∷ decimal (rows_of is_wire turns) ∷ codes "delivers" ∷ decimal (rows_of is_deliver turns) ∷ []) ++ codes "\n"
+end_line head turns = spaced (codes "end") (codes "stack" ∷ decimal head.stack ∷ count_words turns) ++ codes "\n"
 
 -- the lines of a journal
 abbrev pub lines_of : StackHead → List Turn → List (List ℕ)

@@ -5,7 +5,7 @@ ghost use Rattle.ndis_journal.specs.Counted.{test_of, rows_of};
 use journal_types::{Row, Turn};
 
 /// The rows that the last line of a journal counts.
-#[derive(Clone, Copy, PartialEq, Eq)]
+#[derive(Clone, Copy)]
 pub enum Counted {
     Issue,
     Home,

@@ -1,8 +1,9 @@
 //! The lines of a journal, one after the other.
-ghost use Rattle.std.specs.Prelude.{◌≡◌, ℕ, ◌+◌, ◌<◌, ◌↔◌, ◌++◌, ◌∷◌, [], length, take, drop, codes, IfOk, OnErr, OnOk, IsTrue};
+ghost use Rattle.std.specs.Prelude.{◌≡◌, ℕ, ◌+◌, ◌<◌, ◌↔◌, ◌++◌, ◌∷◌, [], length, take, drop, codes, decimal, IfOk, OnErr, OnOk, IsTrue};
 ghost use Rattle.std.specs.List.{concat};
-ghost use Rattle.journal_words.specs.Words.{spaced};
-ghost use Rattle.ndis_journal.specs.Text.{link_words, vlan_words, port_words, lines, head_line, binding_line, turn_line, row_line, end_line};
+ghost use Rattle.journal_words.specs.Words.{word, spaced};
+ghost use Rattle.journal_events.specs.Events.{who_words, event_words, reply_words};
+ghost use Rattle.ndis_journal.specs.Text.{stack_words, link_words, vlan_words, port_words, count_words, lines, head_line, binding_line, turn_line, row_line, end_line};
 
 use crate::counts::{Counted, count_rows};
 use journal_events::events::{push_event, push_reply, push_who};
@@ -49,18 +50,29 @@ fn push_vlan(page: &mut Page, vlan: Option<u16>) -> Result<(), OutOfMemory>
     }
 }
 
+fn push_stack(page: &mut Page, head: &StackHead) -> Result<(), OutOfMemory>
+    ensures { OnOk result (page.new ≡ spaced page.old (stack_words head.now)) }
+{
+    page.number(u64::from(head.stack))?;
+    page.word("miniport")?;
+    page.word(name_of_miniport_kind(head.kind))
+}
+
+fn push_head_words(page: &mut Page, head: &StackHead) -> Result<(), OutOfMemory>
+    ensures { OnOk result (page.new ≡ spaced (spaced (spaced (spaced page.old (stack_words head.now)) (port_words head.now.port)) (link_words head.now.link)) (vlan_words head.now.port.vlan)) }
+{
+    push_stack(page, head)?;
+    push_port(page, &head.port)?;
+    push_link(page, head.link)?;
+    push_vlan(page, head.port.vlan)
+}
+
 /// Adds the first line of a journal.
-#[tactic(auto, unfolding(crate::specs::Text::head_line))]
 fn push_head(page: &mut Page, head: &StackHead) -> Result<(), OutOfMemory>
     ensures { OnOk result (page.new ≡ page.old ++ head_line head.now) }
 {
     page.text("stack")?;
-    page.number(u64::from(head.stack))?;
-    page.word("miniport")?;
-    page.word(name_of_miniport_kind(head.kind))?;
-    push_port(page, &head.port)?;
-    push_link(page, head.link)?;
-    push_vlan(page, head.port.vlan)?;
+    push_head_words(page, head)?;
     page.text("\n")
 }
 
@@ -82,21 +94,25 @@ fn push_binding(
     page.text("\n")
 }
 
-/// Adds the line of the turn of this number.
-#[tactic(auto, unfolding(crate::specs::Text::turn_line))]
-fn push_turn(page: &mut Page, number: usize, turn: &Turn) -> Result<(), OutOfMemory>
-    ensures { OnOk result (page.new ≡ page.old ++ turn_line number turn.now) }
+fn push_turn_words(page: &mut Page, number: usize, turn: &Turn) -> Result<(), OutOfMemory>
+    ensures { OnOk result (page.new ≡ spaced (spaced (spaced (spaced page.old (decimal number ∷ [])) (who_words turn.now.who)) (event_words turn.now.event)) (codes "=" ∷ reply_words turn.now.reply)) }
 {
-    page.text("turn")?;
     page.number(number as u64)?;
     push_who(page, turn.who)?;
     push_event(page, &turn.event)?;
     page.word("=")?;
-    push_reply(page, &turn.reply)?;
+    push_reply(page, &turn.reply)
+}
+
+/// Adds the line of the turn of this number.
+fn push_turn(page: &mut Page, number: usize, turn: &Turn) -> Result<(), OutOfMemory>
+    ensures { OnOk result (page.new ≡ page.old ++ turn_line number turn.now) }
+{
+    page.text("turn")?;
+    push_turn_words(page, number, turn)?;
     page.text("\n")
 }
 
-#[tactic(auto, unfolding(crate::specs::Text::row_line))]
 fn push_row_line(page: &mut Page, row: &Row) -> Result<(), OutOfMemory>
     ensures { OnOk result (page.new ≡ page.old ++ row_line row.now) }
 {
@@ -104,24 +120,30 @@ fn push_row_line(page: &mut Page, row: &Row) -> Result<(), OutOfMemory>
     page.text("\n")
 }
 
+fn push_count(page: &mut Page, text: &str, count: u64) -> Result<(), OutOfMemory>
+    ensures { OnOk result (page.new ≡ word (word page.old text.now) (decimal count)) }
+{
+    page.word(text)?;
+    page.number(count)
+}
+
+fn push_counts(page: &mut Page, turns: &[Turn]) -> Result<(), OutOfMemory>
+    ensures { OnOk result (page.new ≡ spaced page.old (count_words turns.now)) }
+{
+    push_count(page, "turns", turns.len() as u64)?;
+    push_count(page, "lists", count_rows(Counted::Issue, turns))?;
+    push_count(page, "homes", count_rows(Counted::Home, turns))?;
+    push_count(page, "wires", count_rows(Counted::Wire, turns))?;
+    push_count(page, "delivers", count_rows(Counted::Deliver, turns))
+}
+
 /// Adds the last line of a journal.
-#[tactic(auto, unfolding(crate::specs::Text::end_line))]
 fn push_end(page: &mut Page, head: &StackHead, turns: &[Turn]) -> Result<(), OutOfMemory>
     ensures { OnOk result (page.new ≡ page.old ++ end_line head.now turns.now) }
 {
     page.text("end")?;
-    page.word("stack")?;
-    page.number(u64::from(head.stack))?;
-    page.word("turns")?;
-    page.number(turns.len() as u64)?;
-    page.word("lists")?;
-    page.number(count_rows(Counted::Issue, turns))?;
-    page.word("homes")?;
-    page.number(count_rows(Counted::Home, turns))?;
-    page.word("wires")?;
-    page.number(count_rows(Counted::Wire, turns))?;
-    page.word("delivers")?;
-    page.number(count_rows(Counted::Deliver, turns))?;
+    push_count(page, "stack", u64::from(head.stack))?;
+    push_counts(page, turns)?;
     page.text("\n")
 }
 

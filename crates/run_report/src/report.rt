@@ -1,15 +1,21 @@
 //! Reports.
-ghost use Rattle.std.specs.Prelude.{◌≡◌, ◌≤◌, ◌++◌, OnErr, OnOk, flat_map};
+ghost use Rattle.std.specs.Prelude.{◌≡◌, ◌≤◌, ◌++◌, [], OnErr, OnOk, flat_map};
 ghost use Rattle.std.specs.List.{concat};
 ghost use Rattle.outside_io.specs.Edges.{Rose, after, AddsPrefix};
 ghost use Rattle.ndis_journal.specs.Text.{text};
-ghost use Rattle.run_report.specs.Report.{refused_line, report};
+ghost use Rattle.run_report.specs.Report.{Wrote, refused_line, report};
 
-use crate::refused::{Refused, line_of_refused, sort_refused};
+use crate::refused::{Refused, push_refused, sort_refused};
 use ndis_base::OutOfMemory;
-use ndis_journal::{Journal, Lines};
+use ndis_journal::{Journal, Lines, Page};
 use outside_io::{Failed, Sink, write_whole};
 use std::alloc::Global;
+
+/// A page has this room in bytes.
+const PAGE: usize = 65_536;
+
+/// A page with so many bytes is full: behind them a line of the longest frames has room.
+const FULL: usize = 32_768;
 
 /// Why a report wasn't written whole.
 #[derive(Clone, Copy, PartialEq, Eq)]
@@ -40,79 +46,117 @@ impl From<OutOfMemory> for ReportFault {
     }
 }
 
-/// Writes the lines that are left, each by one call of the sink while that takes all of it.
-fn write_lines<K: Sink>(
-    alloc: Global,
-    sink: &mut K,
-    lines: &mut Lines<'_>,
-) -> Result<(), ReportFault>
-    ensures whole { OnOk result (K.holds sink.new ≡ after (K.holds sink.old) (concat lines.old)) }
-    ensures prefix { OnErr result (AddsPrefix (K.holds sink.old) (K.holds sink.new) (concat lines.old)) }
-    ensures failed { result ≡ Err ReportFault.Failed → Rose (K.faults sink.old) (K.faults sink.new) }
+/// Writes a page that is full, and empties it.
+fn write_full<K: Sink>(sink: &mut K, page: &mut Page) -> Result<(), Failed>
+    ensures whole { OnOk result (Wrote (K.holds sink.old) (K.holds sink.new) page.new page.old) }
+    ensures prefix { OnErr result (AddsPrefix (K.holds sink.old) (K.holds sink.new) page.old) }
+    ensures failed { OnErr result (Rose (K.faults sink.old) (K.faults sink.new)) }
     ensures count { K.faults sink.old ≤ K.faults sink.new }
 {
-    while let Some(line) = lines.next_line(alloc)? {
-        write_whole(sink, line.bytes())?;
+    if page.bytes().len() >= FULL {
+        write_whole(sink, page.bytes())?;
+        page.clear();
     }
     Ok(())
 }
 
-/// Writes the text of a journal.
-fn write_journal<K: Sink>(alloc: Global, sink: &mut K, journal: &Journal) -> Result<(), ReportFault>
-    ensures whole { OnOk result (K.holds sink.new ≡ after (K.holds sink.old) (text journal.now)) }
-    ensures prefix { OnErr result (AddsPrefix (K.holds sink.old) (K.holds sink.new) (text journal.now)) }
+/// Adds the lines that are left to the page, and writes it where it is full.
+fn write_lines<K: Sink>(
+    sink: &mut K,
+    page: &mut Page,
+    lines: &mut Lines<'_>,
+) -> Result<(), ReportFault>
+    ensures whole { OnOk result (Wrote (K.holds sink.old) (K.holds sink.new) page.new (page.old ++ concat lines.old)) }
+    ensures prefix { OnErr result (AddsPrefix (K.holds sink.old) (K.holds sink.new) (page.old ++ concat lines.old)) }
+    ensures failed { result ≡ Err ReportFault.Failed → Rose (K.faults sink.old) (K.faults sink.new) }
+    ensures count { K.faults sink.old ≤ K.faults sink.new }
+{
+    while lines.push_next(page)? {
+        write_full(sink, page)?;
+    }
+    Ok(())
+}
+
+/// Adds the text of a journal.
+fn write_journal<K: Sink>(
+    sink: &mut K,
+    page: &mut Page,
+    journal: &Journal,
+) -> Result<(), ReportFault>
+    ensures whole { OnOk result (Wrote (K.holds sink.old) (K.holds sink.new) page.new (page.old ++ text journal.now)) }
+    ensures prefix { OnErr result (AddsPrefix (K.holds sink.old) (K.holds sink.new) (page.old ++ text journal.now)) }
     ensures failed { result ≡ Err ReportFault.Failed → Rose (K.faults sink.old) (K.faults sink.new) }
     ensures count { K.faults sink.old ≤ K.faults sink.new }
 {
     let mut lines = Lines::of(journal);
-    write_lines(alloc, sink, &mut lines)
+    write_lines(sink, page, &mut lines)
 }
 
 fn write_journals<K: Sink>(
-    alloc: Global,
     sink: &mut K,
+    page: &mut Page,
     journals: &[Journal],
 ) -> Result<(), ReportFault>
-    ensures whole { OnOk result (K.holds sink.new ≡ after (K.holds sink.old) (flat_map text journals.now)) }
-    ensures prefix { OnErr result (AddsPrefix (K.holds sink.old) (K.holds sink.new) (flat_map text journals.now)) }
+    ensures whole { OnOk result (Wrote (K.holds sink.old) (K.holds sink.new) page.new (page.old ++ flat_map text journals.now)) }
+    ensures prefix { OnErr result (AddsPrefix (K.holds sink.old) (K.holds sink.new) (page.old ++ flat_map text journals.now)) }
     ensures failed { result ≡ Err ReportFault.Failed → Rose (K.faults sink.old) (K.faults sink.new) }
     ensures count { K.faults sink.old ≤ K.faults sink.new }
 {
     for journal in journals {
-        write_journal(alloc, sink, journal)?;
+        write_journal(sink, page, journal)?;
     }
     Ok(())
 }
 
-fn write_refusal<K: Sink>(alloc: Global, sink: &mut K, refused: &Refused) -> Result<(), ReportFault>
-    ensures whole { OnOk result (K.holds sink.new ≡ after (K.holds sink.old) (refused_line refused.now)) }
-    ensures prefix { OnErr result (AddsPrefix (K.holds sink.old) (K.holds sink.new) (refused_line refused.now)) }
+fn write_refusal<K: Sink>(
+    sink: &mut K,
+    page: &mut Page,
+    refused: &Refused,
+) -> Result<(), ReportFault>
+    ensures whole { OnOk result (Wrote (K.holds sink.old) (K.holds sink.new) page.new (page.old ++ refused_line refused.now)) }
+    ensures prefix { OnErr result (AddsPrefix (K.holds sink.old) (K.holds sink.new) (page.old ++ refused_line refused.now)) }
     ensures failed { result ≡ Err ReportFault.Failed → Rose (K.faults sink.old) (K.faults sink.new) }
     ensures count { K.faults sink.old ≤ K.faults sink.new }
 {
-    let line = line_of_refused(alloc, refused)?;
-    write_whole(sink, line.bytes())?;
+    push_refused(page, refused)?;
+    write_full(sink, page)?;
     Ok(())
 }
 
 fn write_refusals<K: Sink>(
-    alloc: Global,
     sink: &mut K,
+    page: &mut Page,
     refused: &[Refused],
 ) -> Result<(), ReportFault>
-    ensures whole { OnOk result (K.holds sink.new ≡ after (K.holds sink.old) (flat_map refused_line refused.now)) }
-    ensures prefix { OnErr result (AddsPrefix (K.holds sink.old) (K.holds sink.new) (flat_map refused_line refused.now)) }
+    ensures whole { OnOk result (Wrote (K.holds sink.old) (K.holds sink.new) page.new (page.old ++ flat_map refused_line refused.now)) }
+    ensures prefix { OnErr result (AddsPrefix (K.holds sink.old) (K.holds sink.new) (page.old ++ flat_map refused_line refused.now)) }
     ensures failed { result ≡ Err ReportFault.Failed → Rose (K.faults sink.old) (K.faults sink.new) }
     ensures count { K.faults sink.old ≤ K.faults sink.new }
 {
     for one in refused {
-        write_refusal(alloc, sink, one)?;
+        write_refusal(sink, page, one)?;
     }
     Ok(())
 }
 
+/// Adds the journal of each stack, and then the refused calls.
+fn write_parts<K: Sink>(
+    sink: &mut K,
+    page: &mut Page,
+    journals: &[Journal],
+    refused: &[Refused],
+) -> Result<(), ReportFault>
+    ensures whole { OnOk result (Wrote (K.holds sink.old) (K.holds sink.new) page.new (page.old ++ (flat_map text journals.now ++ flat_map refused_line refused.now))) }
+    ensures prefix { OnErr result (AddsPrefix (K.holds sink.old) (K.holds sink.new) (page.old ++ (flat_map text journals.now ++ flat_map refused_line refused.now))) }
+    ensures failed { result ≡ Err ReportFault.Failed → Rose (K.faults sink.old) (K.faults sink.new) }
+    ensures count { K.faults sink.old ≤ K.faults sink.new }
+{
+    write_journals(sink, page, journals)?;
+    write_refusals(sink, page, refused)
+}
+
 /// Writes the journal of each stack, lowest first, and then a line for each refused call, sorted by
-/// lane and then by call. Each line is written by one call of the sink while that takes all of it.
+/// lane and then by call. The lines are gathered on a page, which is written where it is full and at the end.
 pub fn write_report<K: Sink>(
     alloc: Global,
     sink: &mut K,
@@ -125,6 +169,8 @@ pub fn write_report<K: Sink>(
     ensures count { K.faults sink.old ≤ K.faults sink.new }
 {
     let sorted = sort_refused(alloc, refused)?;
-    write_journals(alloc, sink, journals)?;
-    write_refusals(alloc, sink, &sorted)
+    let mut page = Page::with_room(alloc, PAGE)?;
+    write_parts(sink, &mut page, journals, &sorted)?;
+    write_whole(sink, page.bytes())?;
+    Ok(())
 }

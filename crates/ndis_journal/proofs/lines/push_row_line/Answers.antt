@@ -1,0 +1,8 @@
+use Rattle.journal_rows.specs.Rows.{row_words}
+use Rattle.ndis_journal.specs.Text.{row_line}
+use Rattle.ndis_journal.proofs.Behind.{behind-none, line-ends}
+use Rattle.ndis_journal.proofs.lines.push_row_line.Goals as goal
+
+pub returns : goal.returns
+unfolding row_line
+returns c = line-ends c.text.result _ _ _ _ (behind-none _ _ (row_words c.args.row.now) c.in_ok-push_row.ensures) c.text.ensures
