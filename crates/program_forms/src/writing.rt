@@ -2,32 +2,52 @@
 ghost use Rattle.std.specs.Prelude.{◌≡◌, Ok, IfOk, true, map};
 ghost use Rattle.serde_json.specs.View.{view};
 ghost use Rattle.program_forms.specs.Form.{program_in};
-ghost use Rattle.program_forms.specs.Written.{test_data, action_data, rule_data, program_data, is_program};
+ghost use Rattle.program_forms.specs.Written.{test_data, action_data, rule_data, program_data, is_program, member_data, number_data, hex_data, offset_and_byte_data};
+ghost use Rattle.serde_json.specs.Data.{string};
 
 use ndis_base::OutOfMemory;
 use program_types::{Action, Program, Rule, Test};
 use serde_json::{Value, json};
 use std::alloc::{AllocError, Global};
 
+fn word_value(alloc: Global, word: &str) -> Result<Value, AllocError>
+    ensures { IfOk result (λ v. view v ≡ string word.now) }
+{
+    json!(in alloc; word)
+}
+
+fn number_member(alloc: Global, name: &str, number: u16) -> Result<Value, AllocError>
+    ensures { IfOk result (λ v. view v ≡ member_data name.now (number_data number)) }
+{
+    json!(in alloc; {name: number})
+}
+
+fn hex_member(alloc: Global, name: &str, bytes: [u8; 6]) -> Result<Value, AllocError>
+    ensures { IfOk result (λ v. view v ≡ member_data name.now (hex_data bytes)) }
+{
+    let text = hex::encode(alloc, &bytes)?;
+    json!(in alloc; {name: text})
+}
+
+fn byte_member(alloc: Global, name: &str, at: u16, value: u8) -> Result<Value, AllocError>
+    ensures { IfOk result (λ v. view v ≡ member_data name.now (offset_and_byte_data at value)) }
+{
+    json!(in alloc; {name: [at, value]})
+}
+
 fn test_value(alloc: Global, test: Test) -> Result<Value, AllocError>
     ensures { IfOk result (λ v. view v ≡ test_data test) }
 {
     match test {
-        Test::Any => json!(in alloc; "any"),
-        Test::Tagged => json!(in alloc; "tagged"),
-        Test::Untagged => json!(in alloc; "untagged"),
-        Test::Dst(address) => {
-            let text = hex::encode(alloc, &address)?;
-            json!(in alloc; {"dst": text})
-        }
-        Test::Src(address) => {
-            let text = hex::encode(alloc, &address)?;
-            json!(in alloc; {"src": text})
-        }
-        Test::EtherType(number) => json!(in alloc; {"ethertype": number}),
-        Test::Vlan(vlan) => json!(in alloc; {"vlan": vlan}),
-        Test::Longer(bytes) => json!(in alloc; {"longer": bytes}),
-        Test::Byte { at, value } => json!(in alloc; {"byte": [at, value]}),
+        Test::Any => word_value(alloc, "any"),
+        Test::Tagged => word_value(alloc, "tagged"),
+        Test::Untagged => word_value(alloc, "untagged"),
+        Test::Dst(address) => hex_member(alloc, "dst", address),
+        Test::Src(address) => hex_member(alloc, "src", address),
+        Test::EtherType(number) => number_member(alloc, "ethertype", number),
+        Test::Vlan(vlan) => number_member(alloc, "vlan", vlan),
+        Test::Longer(bytes) => number_member(alloc, "longer", bytes),
+        Test::Byte { at, value } => byte_member(alloc, "byte", at, value),
     }
 }
 
@@ -35,18 +55,12 @@ fn action_value(alloc: Global, action: Action) -> Result<Value, AllocError>
     ensures { IfOk result (λ v. view v ≡ action_data action) }
 {
     match action {
-        Action::Drop => json!(in alloc; "drop"),
-        Action::Pop => json!(in alloc; "pop"),
-        Action::Push(control) => json!(in alloc; {"push": control}),
-        Action::SetDst(address) => {
-            let text = hex::encode(alloc, &address)?;
-            json!(in alloc; {"set_dst": text})
-        }
-        Action::SetSrc(address) => {
-            let text = hex::encode(alloc, &address)?;
-            json!(in alloc; {"set_src": text})
-        }
-        Action::SetByte { at, value } => json!(in alloc; {"set_byte": [at, value]}),
+        Action::Drop => word_value(alloc, "drop"),
+        Action::Pop => word_value(alloc, "pop"),
+        Action::Push(control) => number_member(alloc, "push", control),
+        Action::SetDst(address) => hex_member(alloc, "set_dst", address),
+        Action::SetSrc(address) => hex_member(alloc, "set_src", address),
+        Action::SetByte { at, value } => byte_member(alloc, "set_byte", at, value),
     }
 }
 
