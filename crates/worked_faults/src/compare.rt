@@ -5,7 +5,7 @@ use outside_io::MemorySink;
 use std::alloc::Global;
 
 /// The bytes that a report has at most.
-pub const ROOM: usize = 1 << 16;
+pub const ROOM: usize = 1 << 18;
 
 /// A sink that takes everything.
 pub fn wide_sink(alloc: Global) -> Result<MemorySink, OutOfMemory> {

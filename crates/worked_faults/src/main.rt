@@ -25,9 +25,10 @@ fn main(rt: HostRuntime) -> io::Result<()> {
     let alloc = rt.alloc();
     let script = fs::read(&rt, "first-path-1.script.json")?;
     let report = fs::read(&rt, "first-path-1.report")?;
+    let long = fs::read(&rt, "twenty-sends.script.json")?;
     let wide = fs::read(&rt, "two-bindings.script.json")?;
     tell(&rt, reads::lines(alloc, &script, &report))?;
-    tell(&rt, writes::lines(alloc, &script, &report))?;
+    tell(&rt, writes::lines(alloc, &script, &report, &long))?;
     tell(&rt, cuts::lines(alloc, &script))?;
     tell(&rt, wanting::lines(alloc, &script, &wide))?;
     tell(&rt, words::lines(alloc, &script))
