@@ -348,6 +348,7 @@ opened_and_ended head calls a b none w = record {
 
 -- and the stack runs until its calls are made
 pub runs_its_calls : (head : StackHead) (calls : List Call) (a b : BookView) → a.core.turns ≡ [] → Ran head calls a b → RunsItsCalls head b.core.turns
+unfolding opened_and_ended
 runs_its_calls head calls a b none w = record {
   ended = opened_and_ended head calls a b none w;
   running = ap (λ (ts : List Turn). (seen head (ts ++ (w.opening ++ w.middle))).phase) (sym none) ∙ w.running;
