@@ -1,13 +1,16 @@
--- A part of a list, when the list grows or loses what stands behind the part.
+-- A part of a list when the list grows.
 use Rattle.std.proofs.Common.{◌≡◌, ℕ, List, ◌++◌, ◌+◌, ◌-◌, ◌≤◌, length, take, drop, ◌∙◌, ap, refl, arith}
 use Rattle.std.specs.Prelude.{slice_range}
 use Rattle.std.proofs.lemmas.List.{length-drop, drop-append-le, take-append-le, take_all, drop_at}
 
+pub part-grown : {X : Type 0} (xs more : List X) (first count : ℕ) → first + count ≤ length xs → take count (drop first (xs ++ more)) ≡ take count (drop first xs)
+part-grown xs more first count within =
+    let before : first ≤ length xs = omega arith in
+    let enough : count ≤ length (drop first xs) = omega (arith, length-drop first xs) in
+    ap (take count) (drop-append-le first xs more before) ∙ take-append-le count (drop first xs) more enough
+
 pub slice_range-grown : {X : Type 0} (xs more : List X) (from to : ℕ) → from ≤ to → to ≤ length xs → slice_range (xs ++ more) from to ≡ slice_range xs from to
-slice_range-grown xs more from to ordered inside =
-    let before : from ≤ length xs = omega arith in
-    let enough : to - from ≤ length (drop from xs) = omega (arith, length-drop from xs) in
-    ap (take (to - from)) (drop-append-le from xs more before) ∙ take-append-le (to - from) (drop from xs) more enough
+slice_range-grown xs more from to ordered inside = part-grown xs more from (to - from) (omega arith)
 
 pub slice_range-added : {X : Type 0} (xs more : List X) (to : ℕ) → to ≡ length xs + length more → slice_range (xs ++ more) (length xs) to ≡ more
 slice_range-added xs more to end =
