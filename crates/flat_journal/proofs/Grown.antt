@@ -1,6 +1,6 @@
 -- What an event, a reply and a row show stays the same when payloads are added.
-use Rattle.std.proofs.Common.{◌≡◌, ℕ, List, [], ◌∷◌, ◌++◌, ◌+◌, ◌<◌, ◌≤◌, length, map, take, drop, All, ap, refl, arith}
-use Rattle.std.proofs.lemmas.List.{length-append, get_or_append_left, drop-append-le, take-append-le, length-drop}
+use Rattle.std.proofs.Common.{◌≡◌, ℕ, List, [], ◌∷◌, ◌++◌, ◌+◌, ◌<◌, ◌≤◌, length, map, take, drop, All, ap, ◌∙◌, sym, refl, arith}
+use Rattle.std.proofs.lemmas.List.{append-nil, length-append, get_or_append_left, drop-append-le, take-append-le, length-drop}
 use Rattle.std.proofs.lemmas.List.Elements.{All-head, All-tail}
 use Rattle.journal_types.specs.declared.Setup.{Setup}
 use Rattle.journal_types.specs.declared.Event.TheVariants as event
@@ -28,6 +28,27 @@ pub record Grows (p q : Payloads) : Type 0 where
   pub frames : (more : List (List ℕ)) × (q.frames ≡ p.frames ++ more)
   pub filters : (more : List ℕ) × (q.filters ≡ p.filters ++ more)
   pub setups : (more : List Setup) × (q.setups ≡ p.setups ++ more)
+
+pub grown_by_frames : (p q : Payloads) (more : List (List ℕ)) → q.frames ≡ p.frames ++ more → q.filters ≡ p.filters → q.setups ≡ p.setups → Grows p q
+grown_by_frames p q more frames filters setups = record {
+  frames = (more, frames);
+  filters = ([], filters ∙ sym (append-nil p.filters));
+  setups = ([], setups ∙ sym (append-nil p.setups));
+}
+
+pub grown_by_filters : (p q : Payloads) (more : List ℕ) → q.frames ≡ p.frames → q.filters ≡ p.filters ++ more → q.setups ≡ p.setups → Grows p q
+grown_by_filters p q more frames filters setups = record {
+  frames = ([], frames ∙ sym (append-nil p.frames));
+  filters = (more, filters);
+  setups = ([], setups ∙ sym (append-nil p.setups));
+}
+
+pub grown_by_setups : (p q : Payloads) (more : List Setup) → q.frames ≡ p.frames → q.filters ≡ p.filters → q.setups ≡ p.setups ++ more → Grows p q
+grown_by_setups p q more frames filters setups = record {
+  frames = ([], frames ∙ sym (append-nil p.frames));
+  filters = ([], filters ∙ sym (append-nil p.filters));
+  setups = (more, setups);
+}
 
 frames_at-same : (p q : Payloads) → Grows p q → (span : FrameSpan) → SpanWithin p.frames span → frames_at q.frames span ≡ frames_at p.frames span
 frames_at-same p q grows span within = rw grows.frames.1 (frames_at-grown p.frames grows.frames.0 span within)
