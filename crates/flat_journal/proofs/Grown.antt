@@ -8,8 +8,8 @@ use Rattle.journal_types.specs.declared.Reply.TheVariants as reply
 use Rattle.journal_types.specs.declared.Row.TheVariants as row
 use Rattle.frame_arena.specs.declared.FrameSpan.{FrameSpan}
 use Rattle.frame_arena.specs.Spans.{frames_at, SpanWithin}
-use Rattle.frame_arena.proofs.Ranges.{part-grown}
-use Rattle.frame_arena.proofs.Spans.{frames_at-grown}
+use Rattle.frame_arena.proofs.Ranges.{part_grown}
+use Rattle.frame_arena.proofs.Spans.{frames_at_grown}
 use Rattle.flat_journal.specs.declared.types.FilterSpan.{FilterSpan}
 use Rattle.flat_journal.specs.declared.types.SetupNo.{SetupNo}
 use Rattle.flat_journal.specs.declared.types.ValueNo.{ValueNo}
@@ -51,10 +51,10 @@ grown_by_setups p q more frames filters setups = record {
 }
 
 frames_at-same : (p q : Payloads) → Grows p q → (span : FrameSpan) → SpanWithin p.frames span → frames_at q.frames span ≡ frames_at p.frames span
-frames_at-same p q grows span within = rw grows.frames.1 (frames_at-grown p.frames grows.frames.0 span within)
+frames_at-same p q grows span within = rw grows.frames.1 (frames_at_grown p.frames grows.frames.0 span within)
 
 filters_at-same : (p q : Payloads) → Grows p q → (span : FilterSpan) → FiltersWithin p span → filters_at q.filters span ≡ filters_at p.filters span
-filters_at-same p q grows span within = rw grows.filters.1 (part-grown p.filters grows.filters.0 span.first span.count within)
+filters_at-same p q grows span within = rw grows.filters.1 (part_grown p.filters grows.filters.0 span.first span.count within)
 
 value_at-same : (p q : Payloads) → Grows p q → (value : ValueNo) → ValueWithin p value → value_at q.frames value ≡ value_at p.frames value
 value_at-same p q grows value within = rw grows.frames.1 (get_or_append_left p.frames grows.frames.0 [] value.0 within)

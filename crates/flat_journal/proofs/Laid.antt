@@ -3,7 +3,7 @@ use Rattle.std.proofs.Common.{◌≡◌, ℕ, List, [], ◌∷◌, ◌++◌, ◌
 use Rattle.std.specs.Prelude.{slice_range}
 use Rattle.std.proofs.lemmas.List.{length-append, map_push, map-append, drop-append-le, drop_all, take_rest, take-append-drop, length-take}
 use Rattle.std.proofs.lemmas.List.Elements.{All-head, All-tail, All-push, All-take, All-drop, All-weaker}
-use Rattle.frame_arena.proofs.Ranges.{slice_range-grown}
+use Rattle.frame_arena.proofs.Ranges.{slice_range_grown}
 use Rattle.journal_types.specs.declared.Row.{Row}
 use Rattle.journal_types.specs.declared.Turn.{Turn}
 use Rattle.flat_journal.specs.declared.types.FlatRow.{FlatRow}
@@ -32,7 +32,7 @@ turn_of-same_rows p rows others head same =
 pub turns-row_added : (p : Payloads) (heads : List TurnHead) (rows : List FlatRow) (begun : ℕ) (row : FlatRow) → Kept p heads rows begun → map (turn_of p (rows ++ row ∷ [])) heads ≡ map (turn_of p rows) heads
 turns-row_added p heads rows begun row kept =
     map-same (TurnWithin p begun) (turn_of p (rows ++ row ∷ [])) (turn_of p rows)
-    (λ head within. turn_of-same_rows p rows (rows ++ row ∷ []) head (slice_range-grown rows (row ∷ []) head.first head.end within.ordered (omega (arith, within.ended, kept.begun_within))))
+    (λ head within. turn_of-same_rows p rows (rows ++ row ∷ []) head (slice_range_grown rows (row ∷ []) head.first head.end within.ordered (omega (arith, within.ended, kept.begun_within))))
     heads kept.turns_within
 
 pub rows-row_added : (p : Payloads) (heads : List TurnHead) (rows : List FlatRow) (begun : ℕ) (row : FlatRow) → Kept p heads rows begun → map (row_of p) (drop begun (rows ++ row ∷ [])) ≡ map (row_of p) (drop begun rows) ++ row_of p row ∷ []
@@ -110,7 +110,7 @@ turns-abandoned p heads rows begun kept =
     map-same (TurnWithin p begun) (turn_of p (take begun rows)) (turn_of p rows)
     (λ head within.
       turn_of-same_rows p rows (take begun rows) head
-      (sym (slice_range-grown (take begun rows) (drop begun rows) head.first head.end within.ordered (omega (arith, within.ended, all)))
+      (sym (slice_range_grown (take begun rows) (drop begun rows) head.first head.end within.ordered (omega (arith, within.ended, all)))
       ∙ ap (λ whole. slice_range whole head.first head.end) parts))
     heads kept.turns_within
 

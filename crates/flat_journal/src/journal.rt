@@ -1,5 +1,6 @@
 //! The journal of a stack, written row by row.
-ghost use Rattle.std.specs.Prelude.{◌≡◌, ◌+◌, ◌<◌, ◌≤◌, ◌++◌, ◌∷◌, [], OnOk, All, length, map, slice_get, slice_index_or, sum_by, Some, vec_len, vec_capacity};
+ghost use Rattle.std.specs.Prelude.{◌≡◌, ◌+◌, ◌<◌, ◌≤◌, ◌++◌, ◌∷◌, [], OnOk, All, drop, length, map, slice_get, slice_index_or, sum_by, Some, vec_len, vec_capacity};
+ghost use Rattle.frame_arena.specs.Spans.{frames_at, SpanWithin};
 ghost use Rattle.flat_journal.specs.Payloads.{filters_at, value_at, setup_at};
 ghost use Rattle.flat_journal.specs.Shown.{event_of, reply_of, row_of};
 ghost use Rattle.flat_journal.specs.Within.{FiltersWithin, ValueWithin, SetupWithin, EventWithin, ReplyWithin, RowWithin};
@@ -151,9 +152,38 @@ impl FlatJournal {
         ensures rows { self.new.rows ≡ self.old.rows }
         ensures payloads { self.new.payloads ≡ record self.old.payloads { frames = self.old.payloads.frames ++ frames.now } }
         ensures span { result ≡ record { first = length self.old.payloads.frames; count = length frames.now } }
+        ensures within { SpanWithin self.new.payloads.frames result }
+        ensures shown { frames_at self.new.payloads.frames result ≡ frames.now }
         ensures room { Uses self.old.room self.new.room (record no_room { frames = length frames.now; bytes = sum_by length frames.now }) }
     {
         self.arena.push_frames_reserved(frames)
+    }
+
+    /// The span of the frames from the number `first` on.
+    pub fn span_from(&self, first: usize) -> FrameSpan
+        requires { first ≤ length self.now.payloads.frames }
+        ensures within { SpanWithin self.now.payloads.frames result }
+        ensures shown { frames_at self.now.payloads.frames result ≡ drop first self.now.payloads.frames }
+    {
+        self.arena.span_from(first)
+    }
+
+    /// Adds the value of an OID request. It takes no memory.
+    pub fn push_value(&mut self, value: &[u8]) -> ValueNo
+        requires frame_room { 1 ≤ self.old.room.frames }
+        requires byte_room { length value.now ≤ self.old.room.bytes }
+        ensures head { self.new.head ≡ self.old.head }
+        ensures turns { self.new.turns ≡ self.old.turns }
+        ensures rows { self.new.rows ≡ self.old.rows }
+        ensures payloads { self.new.payloads ≡ record self.old.payloads { frames = self.old.payloads.frames ++ value.now ∷ [] } }
+        ensures number { result ≡ record { 0 = length self.old.payloads.frames } }
+        ensures within { ValueWithin self.new.payloads result }
+        ensures shown { value_at self.new.payloads.frames result ≡ value.now }
+        ensures room { Uses self.old.room self.new.room (record no_room { frames = 1; bytes = length value.now }) }
+    {
+        let at = self.frame_count();
+        self.push_frame(value);
+        ValueNo(at)
     }
 
     /// Adds the filters of a configuration. It takes no memory.
@@ -164,6 +194,8 @@ impl FlatJournal {
         ensures rows { self.new.rows ≡ self.old.rows }
         ensures payloads { self.new.payloads ≡ record self.old.payloads { filters = self.old.payloads.filters ++ filters.now } }
         ensures span { result ≡ record { first = length self.old.payloads.filters; count = length filters.now } }
+        ensures within { FiltersWithin self.new.payloads result }
+        ensures shown { filters_at self.new.payloads.filters result ≡ filters.now }
         ensures room { Uses self.old.room self.new.room (record no_room { filters = length filters.now }) }
     {
         let first = self.filters.len();
@@ -182,6 +214,8 @@ impl FlatJournal {
         ensures rows { self.new.rows ≡ self.old.rows }
         ensures payloads { self.new.payloads ≡ record self.old.payloads { setups = self.old.payloads.setups ++ setup ∷ [] } }
         ensures number { result ≡ record { 0 = length self.old.payloads.setups } }
+        ensures within { SetupWithin self.new.payloads result }
+        ensures shown { setup_at self.new.payloads.setups result ≡ setup }
         ensures room { Uses self.old.room self.new.room (record no_room { setups = 1 }) }
     {
         let at = self.setups.len();

@@ -1,7 +1,8 @@
 //! The bytes of many frames in one vector, and spans of such frames.
 #![tactic(auto)]
 
-ghost use Rattle.std.specs.Prelude.{◌≡◌, ◌-◌, ◌<◌, ◌≤◌, ◌++◌, ◌∷◌, [], OnOk, length, slice_index_or, sum_by};
+ghost use Rattle.std.specs.Prelude.{◌≡◌, ◌-◌, ◌<◌, ◌≤◌, ◌++◌, ◌∷◌, [], OnOk, length, drop, slice_index_or, sum_by};
+ghost use Rattle.frame_arena.specs.Spans.{frames_at, SpanWithin};
 
 use ndis_base::{Frame, OutOfMemory};
 use std::alloc::Global;
@@ -106,12 +107,27 @@ impl FrameArena {
         self.byte_room -= frame.len();
     }
 
+    /// The span of the frames from the number `first` on.
+    pub fn span_from(&self, first: usize) -> FrameSpan
+        requires { first ≤ length self.now.frames }
+        ensures within { SpanWithin self.now.frames result }
+        ensures shown { frames_at self.now.frames result ≡ drop first self.now.frames }
+    {
+        FrameSpan {
+            first,
+            count: self.count() - first,
+        }
+    }
+
     /// Adds frames, for which there is room, and gives their span. It takes no memory.
+    #[tactic(auto, using(crate::proofs::Spans::frames_at_added))]
     pub fn push_frames_reserved(&mut self, frames: &[Frame]) -> FrameSpan
         requires frame_room { length frames.now ≤ self.old.frame_room }
         requires byte_room { sum_by length frames.now ≤ self.old.byte_room }
         ensures frames { self.new.frames ≡ self.old.frames ++ frames.now }
         ensures span { result ≡ record { first = length self.old.frames; count = length frames.now } }
+        ensures within { SpanWithin self.new.frames result }
+        ensures shown { frames_at self.new.frames result ≡ frames.now }
         ensures frame_room { self.new.frame_room ≡ self.old.frame_room - length frames.now }
         ensures byte_room { self.new.byte_room ≡ self.old.byte_room - sum_by length frames.now }
     {
