@@ -1,6 +1,6 @@
 -- What an event, a reply and a row show stays the same when payloads are added.
 use Rattle.std.proofs.Common.{◌≡◌, ℕ, List, [], ◌∷◌, ◌++◌, ◌+◌, ◌<◌, ◌≤◌, length, map, take, drop, All, ap, ◌∙◌, sym, refl, arith}
-use Rattle.std.proofs.lemmas.List.{append-nil, length-append, get_or_append_left, drop-append-le, take-append-le, length-drop}
+use Rattle.std.proofs.lemmas.List.{append-nil, append_assoc, length-append, get_or_append_left, drop-append-le, take-append-le, length-drop}
 use Rattle.std.proofs.lemmas.List.Elements.{All-head, All-tail}
 use Rattle.journal_types.specs.declared.Setup.{Setup}
 use Rattle.journal_types.specs.declared.Event.TheVariants as event
@@ -20,14 +20,23 @@ use Rattle.flat_journal.specs.declared.types.FlatReply.TheVariants as flat_reply
 use Rattle.flat_journal.specs.declared.types.FlatRow.{FlatRow}
 use Rattle.flat_journal.specs.declared.types.FlatRow.TheVariants as flat_row
 use Rattle.flat_journal.specs.Payloads.{Payloads, filters_at, value_at, setup_at, no_setup}
+use Rattle.flat_journal.specs.Grows.{Grows}
 use Rattle.flat_journal.specs.Shown.{event_of, reply_of, row_of}
 use Rattle.flat_journal.specs.Within.{FiltersWithin, ValueWithin, SetupWithin, EventWithin, ReplyWithin, RowWithin}
 
--- the payloads `q` are `p` and further ones
-pub record Grows (p q : Payloads) : Type 0 where
-  pub frames : (more : List (List ℕ)) × (q.frames ≡ p.frames ++ more)
-  pub filters : (more : List ℕ) × (q.filters ≡ p.filters ++ more)
-  pub setups : (more : List Setup) × (q.setups ≡ p.setups ++ more)
+pub grows_nothing : (p : Payloads) → Grows p p
+grows_nothing p = record {
+  frames = ([], sym (append-nil p.frames));
+  filters = ([], sym (append-nil p.filters));
+  setups = ([], sym (append-nil p.setups));
+}
+
+pub grows_twice : (p q r : Payloads) → Grows p q → Grows q r → Grows p r
+grows_twice p q r first second = record {
+  frames = (first.frames.0 ++ second.frames.0, second.frames.1 ∙ ap (λ xs. xs ++ second.frames.0) first.frames.1 ∙ append_assoc p.frames first.frames.0 second.frames.0);
+  filters = (first.filters.0 ++ second.filters.0, second.filters.1 ∙ ap (λ xs. xs ++ second.filters.0) first.filters.1 ∙ append_assoc p.filters first.filters.0 second.filters.0);
+  setups = (first.setups.0 ++ second.setups.0, second.setups.1 ∙ ap (λ xs. xs ++ second.setups.0) first.setups.1 ∙ append_assoc p.setups first.setups.0 second.setups.0);
+}
 
 pub grown_by_frames : (p q : Payloads) (more : List (List ℕ)) → q.frames ≡ p.frames ++ more → q.filters ≡ p.filters → q.setups ≡ p.setups → Grows p q
 grown_by_frames p q more frames filters setups = record {
@@ -50,17 +59,17 @@ grown_by_setups p q more frames filters setups = record {
   setups = (more, setups);
 }
 
-frames_at-same : (p q : Payloads) → Grows p q → (span : FrameSpan) → SpanWithin p.frames span → frames_at q.frames span ≡ frames_at p.frames span
-frames_at-same p q grows span within = rw grows.frames.1 (frames_at_grown p.frames grows.frames.0 span within)
+pub frames_at_same : (p q : Payloads) → Grows p q → (span : FrameSpan) → SpanWithin p.frames span → frames_at q.frames span ≡ frames_at p.frames span
+frames_at_same p q grows span within = rw grows.frames.1 (frames_at_grown p.frames grows.frames.0 span within)
 
-filters_at-same : (p q : Payloads) → Grows p q → (span : FilterSpan) → FiltersWithin p span → filters_at q.filters span ≡ filters_at p.filters span
-filters_at-same p q grows span within = rw grows.filters.1 (part_grown p.filters grows.filters.0 span.first span.count within)
+pub filters_at_same : (p q : Payloads) → Grows p q → (span : FilterSpan) → FiltersWithin p span → filters_at q.filters span ≡ filters_at p.filters span
+filters_at_same p q grows span within = rw grows.filters.1 (part_grown p.filters grows.filters.0 span.first span.count within)
 
-value_at-same : (p q : Payloads) → Grows p q → (value : ValueNo) → ValueWithin p value → value_at q.frames value ≡ value_at p.frames value
-value_at-same p q grows value within = rw grows.frames.1 (get_or_append_left p.frames grows.frames.0 [] value.0 within)
+pub value_at_same : (p q : Payloads) → Grows p q → (value : ValueNo) → ValueWithin p value → value_at q.frames value ≡ value_at p.frames value
+value_at_same p q grows value within = rw grows.frames.1 (get_or_append_left p.frames grows.frames.0 [] value.0 within)
 
-setup_at-same : (p q : Payloads) → Grows p q → (setup : SetupNo) → SetupWithin p setup → setup_at q.setups setup ≡ setup_at p.setups setup
-setup_at-same p q grows setup within = rw grows.setups.1 (get_or_append_left p.setups grows.setups.0 no_setup setup.0 within)
+pub setup_at_same : (p q : Payloads) → Grows p q → (setup : SetupNo) → SetupWithin p setup → setup_at q.setups setup ≡ setup_at p.setups setup
+setup_at_same p q grows setup within = rw grows.setups.1 (get_or_append_left p.setups grows.setups.0 no_setup setup.0 within)
 
 more_frames : (p q : Payloads) → Grows p q → length p.frames ≤ length q.frames
 more_frames p q grows = rw grows.frames.1 (omega (arith, length-append p.frames grows.frames.0))
@@ -71,54 +80,54 @@ more_filters p q grows = rw grows.filters.1 (omega (arith, length-append p.filte
 more_setups : (p q : Payloads) → Grows p q → length p.setups ≤ length q.setups
 more_setups p q grows = rw grows.setups.1 (omega (arith, length-append p.setups grows.setups.0))
 
-pub event_of-same : (p q : Payloads) → Grows p q → (e : FlatEvent) → EventWithin p e → event_of q e ≡ event_of p e
-event_of-same p q g (flat_event.Insert kind position setup) w = ap (event.Insert kind position) (setup_at-same p q g setup w)
-event_of-same p q g (flat_event.Replace filter kind setup) w = ap (event.Replace filter kind) (setup_at-same p q g setup w)
-event_of-same p q g (flat_event.Send binding cancel frames) w = ap (event.Send binding cancel) (frames_at-same p q g frames w)
-event_of-same p q g (flat_event.Indicate frames) w = ap event.Indicate (frames_at-same p q g frames w)
-event_of-same p q g (flat_event.Lend frames) w = ap event.Lend (frames_at-same p q g frames w)
-event_of-same p q g (flat_event.Ask binding kind code value) w = ap (event.Ask binding kind code) (value_at-same p q g value w)
-event_of-same p q g (flat_event.CrossPut stack message vlan frames) w = ap (event.CrossPut stack message vlan) (frames_at-same p q g frames w)
-event_of-same p q g (flat_event.CrossPutUp stack message frames) w = ap (event.CrossPutUp stack message) (frames_at-same p q g frames w)
-event_of-same p q g _ w = refl
+pub event_of_same : (p q : Payloads) → Grows p q → (e : FlatEvent) → EventWithin p e → event_of q e ≡ event_of p e
+event_of_same p q g (flat_event.Insert kind position setup) w = ap (event.Insert kind position) (setup_at_same p q g setup w)
+event_of_same p q g (flat_event.Replace filter kind setup) w = ap (event.Replace filter kind) (setup_at_same p q g setup w)
+event_of_same p q g (flat_event.Send binding cancel frames) w = ap (event.Send binding cancel) (frames_at_same p q g frames w)
+event_of_same p q g (flat_event.Indicate frames) w = ap event.Indicate (frames_at_same p q g frames w)
+event_of_same p q g (flat_event.Lend frames) w = ap event.Lend (frames_at_same p q g frames w)
+event_of_same p q g (flat_event.Ask binding kind code value) w = ap (event.Ask binding kind code) (value_at_same p q g value w)
+event_of_same p q g (flat_event.CrossPut stack message vlan frames) w = ap (event.CrossPut stack message vlan) (frames_at_same p q g frames w)
+event_of_same p q g (flat_event.CrossPutUp stack message frames) w = ap (event.CrossPutUp stack message) (frames_at_same p q g frames w)
+event_of_same p q g _ w = refl
 
-pub reply_of-same : (p q : Payloads) → Grows p q → (r : FlatReply) → ReplyWithin p r → reply_of q r ≡ reply_of p r
-reply_of-same p q g (flat_reply.Taken message frames) w = ap (reply.Taken message) (frames_at-same p q g frames w)
-reply_of-same p q g _ w = refl
+pub reply_of_same : (p q : Payloads) → Grows p q → (r : FlatReply) → ReplyWithin p r → reply_of q r ≡ reply_of p r
+reply_of_same p q g (flat_reply.Taken message frames) w = ap (reply.Taken message) (frames_at_same p q g frames w)
+reply_of_same p q g _ w = refl
 
-pub row_of-same : (p q : Payloads) → Grows p q → (r : FlatRow) → RowWithin p r → row_of q r ≡ row_of p r
-row_of-same p q g (flat_row.Issue list owner config direction cancel origin frames) w = ap (row.Issue list owner config direction cancel origin) (frames_at-same p q g frames w)
-row_of-same p q g (flat_row.Wire list frames) w = ap (row.Wire list) (frames_at-same p q g frames w)
-row_of-same p q g (flat_row.Deliver list binding how frames) w = ap (row.Deliver list binding how) (frames_at-same p q g frames w)
-row_of-same p q g (flat_row.Config config filters) w = ap (row.Config config) (filters_at-same p q g filters w)
-row_of-same p q g (flat_row.OidIssue request parent binding kind code value) w = ap (row.OidIssue request parent binding kind code) (value_at-same p q g value w)
-row_of-same p q g (flat_row.OidDone request status value) w = ap (row.OidDone request status) (value_at-same p q g value w)
-row_of-same p q g (flat_row.CrossOut message way frames) w = ap (row.CrossOut message way) (frames_at-same p q g frames w)
-row_of-same p q g (flat_row.CrossIn stack message way frames) w = ap (row.CrossIn stack message way) (frames_at-same p q g frames w)
-row_of-same p q g _ w = refl
+pub row_of_same : (p q : Payloads) → Grows p q → (r : FlatRow) → RowWithin p r → row_of q r ≡ row_of p r
+row_of_same p q g (flat_row.Issue list owner config direction cancel origin frames) w = ap (row.Issue list owner config direction cancel origin) (frames_at_same p q g frames w)
+row_of_same p q g (flat_row.Wire list frames) w = ap (row.Wire list) (frames_at_same p q g frames w)
+row_of_same p q g (flat_row.Deliver list binding how frames) w = ap (row.Deliver list binding how) (frames_at_same p q g frames w)
+row_of_same p q g (flat_row.Config config filters) w = ap (row.Config config) (filters_at_same p q g filters w)
+row_of_same p q g (flat_row.OidIssue request parent binding kind code value) w = ap (row.OidIssue request parent binding kind code) (value_at_same p q g value w)
+row_of_same p q g (flat_row.OidDone request status value) w = ap (row.OidDone request status) (value_at_same p q g value w)
+row_of_same p q g (flat_row.CrossOut message way frames) w = ap (row.CrossOut message way) (frames_at_same p q g frames w)
+row_of_same p q g (flat_row.CrossIn stack message way frames) w = ap (row.CrossIn stack message way) (frames_at_same p q g frames w)
+row_of_same p q g _ w = refl
 
-pub event_within-grown : (p q : Payloads) → Grows p q → (e : FlatEvent) → EventWithin p e → EventWithin q e
-event_within-grown p q g (flat_event.Insert kind position setup) w = omega (arith, more_setups p q g)
-event_within-grown p q g (flat_event.Replace filter kind setup) w = omega (arith, more_setups p q g)
-event_within-grown p q g (flat_event.Send binding cancel frames) w = omega (arith, more_frames p q g)
-event_within-grown p q g (flat_event.Indicate frames) w = omega (arith, more_frames p q g)
-event_within-grown p q g (flat_event.Lend frames) w = omega (arith, more_frames p q g)
-event_within-grown p q g (flat_event.Ask binding kind code value) w = omega (arith, more_frames p q g)
-event_within-grown p q g (flat_event.CrossPut stack message vlan frames) w = omega (arith, more_frames p q g)
-event_within-grown p q g (flat_event.CrossPutUp stack message frames) w = omega (arith, more_frames p q g)
-event_within-grown p q g _ w = tt
+pub event_within_grown : (p q : Payloads) → Grows p q → (e : FlatEvent) → EventWithin p e → EventWithin q e
+event_within_grown p q g (flat_event.Insert kind position setup) w = omega (arith, more_setups p q g)
+event_within_grown p q g (flat_event.Replace filter kind setup) w = omega (arith, more_setups p q g)
+event_within_grown p q g (flat_event.Send binding cancel frames) w = omega (arith, more_frames p q g)
+event_within_grown p q g (flat_event.Indicate frames) w = omega (arith, more_frames p q g)
+event_within_grown p q g (flat_event.Lend frames) w = omega (arith, more_frames p q g)
+event_within_grown p q g (flat_event.Ask binding kind code value) w = omega (arith, more_frames p q g)
+event_within_grown p q g (flat_event.CrossPut stack message vlan frames) w = omega (arith, more_frames p q g)
+event_within_grown p q g (flat_event.CrossPutUp stack message frames) w = omega (arith, more_frames p q g)
+event_within_grown p q g _ w = tt
 
-pub reply_within-grown : (p q : Payloads) → Grows p q → (r : FlatReply) → ReplyWithin p r → ReplyWithin q r
-reply_within-grown p q g (flat_reply.Taken message frames) w = omega (arith, more_frames p q g)
-reply_within-grown p q g _ w = tt
+pub reply_within_grown : (p q : Payloads) → Grows p q → (r : FlatReply) → ReplyWithin p r → ReplyWithin q r
+reply_within_grown p q g (flat_reply.Taken message frames) w = omega (arith, more_frames p q g)
+reply_within_grown p q g _ w = tt
 
-pub row_within-grown : (p q : Payloads) → Grows p q → (r : FlatRow) → RowWithin p r → RowWithin q r
-row_within-grown p q g (flat_row.Issue list owner config direction cancel origin frames) w = omega (arith, more_frames p q g)
-row_within-grown p q g (flat_row.Wire list frames) w = omega (arith, more_frames p q g)
-row_within-grown p q g (flat_row.Deliver list binding how frames) w = omega (arith, more_frames p q g)
-row_within-grown p q g (flat_row.Config config filters) w = omega (arith, more_filters p q g)
-row_within-grown p q g (flat_row.OidIssue request parent binding kind code value) w = omega (arith, more_frames p q g)
-row_within-grown p q g (flat_row.OidDone request status value) w = omega (arith, more_frames p q g)
-row_within-grown p q g (flat_row.CrossOut message way frames) w = omega (arith, more_frames p q g)
-row_within-grown p q g (flat_row.CrossIn stack message way frames) w = omega (arith, more_frames p q g)
-row_within-grown p q g _ w = tt
+pub row_within_grown : (p q : Payloads) → Grows p q → (r : FlatRow) → RowWithin p r → RowWithin q r
+row_within_grown p q g (flat_row.Issue list owner config direction cancel origin frames) w = omega (arith, more_frames p q g)
+row_within_grown p q g (flat_row.Wire list frames) w = omega (arith, more_frames p q g)
+row_within_grown p q g (flat_row.Deliver list binding how frames) w = omega (arith, more_frames p q g)
+row_within_grown p q g (flat_row.Config config filters) w = omega (arith, more_filters p q g)
+row_within_grown p q g (flat_row.OidIssue request parent binding kind code value) w = omega (arith, more_frames p q g)
+row_within_grown p q g (flat_row.OidDone request status value) w = omega (arith, more_frames p q g)
+row_within_grown p q g (flat_row.CrossOut message way frames) w = omega (arith, more_frames p q g)
+row_within_grown p q g (flat_row.CrossIn stack message way frames) w = omega (arith, more_frames p q g)
+row_within_grown p q g _ w = tt

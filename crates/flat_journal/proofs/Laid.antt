@@ -12,7 +12,8 @@ use Rattle.flat_journal.specs.Payloads.{Payloads}
 use Rattle.flat_journal.specs.Shown.{event_of, reply_of, row_of, turn_of}
 use Rattle.flat_journal.specs.Within.{EventWithin, ReplyWithin, RowWithin, TurnWithin}
 use Rattle.flat_journal.specs.Flat.{Kept}
-use Rattle.flat_journal.proofs.Grown.{Grows, event_of-same, reply_of-same, row_of-same, event_within-grown, reply_within-grown, row_within-grown}
+use Rattle.flat_journal.specs.Grows.{Grows}
+use Rattle.flat_journal.proofs.Grown.{event_of_same, reply_of_same, row_of_same, event_within_grown, reply_within_grown, row_within_grown}
 
 -- functions that agree at each element give the same list
 map-same : {X Y : Type 0} (P : X → Type 0) (f h : X → Y) → ((x : X) → P x → f x ≡ h x) → (xs : List X) → All P xs → map f xs ≡ map h xs
@@ -23,8 +24,8 @@ map-same P f h agree (x ∷ xs) all =
     cc
 
 -- a head whose rows stand at the same places shows the same turn
-turn_of-same_rows : (p : Payloads) (rows others : List FlatRow) (head : TurnHead) → slice_range others head.first head.end ≡ slice_range rows head.first head.end → turn_of p others head ≡ turn_of p rows head
-turn_of-same_rows p rows others head same =
+turn_of_same_rows : (p : Payloads) (rows others : List FlatRow) (head : TurnHead) → slice_range others head.first head.end ≡ slice_range rows head.first head.end → turn_of p others head ≡ turn_of p rows head
+turn_of_same_rows p rows others head same =
     ap (λ (part : List FlatRow). let turn : Turn = record { who = head.who; event = event_of p head.event; reply = reply_of p head.reply; rows = map (row_of p) part } in turn) same
 
 -- a row is added
@@ -32,7 +33,7 @@ turn_of-same_rows p rows others head same =
 pub turns-row_added : (p : Payloads) (heads : List TurnHead) (rows : List FlatRow) (begun : ℕ) (row : FlatRow) → Kept p heads rows begun → map (turn_of p (rows ++ row ∷ [])) heads ≡ map (turn_of p rows) heads
 turns-row_added p heads rows begun row kept =
     map-same (TurnWithin p begun) (turn_of p (rows ++ row ∷ [])) (turn_of p rows)
-    (λ head within. turn_of-same_rows p rows (rows ++ row ∷ []) head (slice_range_grown rows (row ∷ []) head.first head.end within.ordered (omega (arith, within.ended, kept.begun_within))))
+    (λ head within. turn_of_same_rows p rows (rows ++ row ∷ []) head (slice_range_grown rows (row ∷ []) head.first head.end within.ordered (omega (arith, within.ended, kept.begun_within))))
     heads kept.turns_within
 
 pub rows-row_added : (p : Payloads) (heads : List TurnHead) (rows : List FlatRow) (begun : ℕ) (row : FlatRow) → Kept p heads rows begun → map (row_of p) (drop begun (rows ++ row ∷ [])) ≡ map (row_of p) (drop begun rows) ++ row_of p row ∷ []
@@ -48,28 +49,28 @@ kept-row_added p heads rows begun row kept within = record {
 
 -- payloads are added
 
-turn_of-same : (p q : Payloads) → Grows p q → (rows : List FlatRow) (begun : ℕ) → All (RowWithin p) rows → (head : TurnHead) → TurnWithin p begun head → turn_of q rows head ≡ turn_of p rows head
-turn_of-same p q grows rows begun rows_within head within =
-    let event : event_of q head.event ≡ event_of p head.event = event_of-same p q grows head.event within.event in
-    let reply : reply_of q head.reply ≡ reply_of p head.reply = reply_of-same p q grows head.reply within.reply in
+turn_of_same : (p q : Payloads) → Grows p q → (rows : List FlatRow) (begun : ℕ) → All (RowWithin p) rows → (head : TurnHead) → TurnWithin p begun head → turn_of q rows head ≡ turn_of p rows head
+turn_of_same p q grows rows begun rows_within head within =
+    let event : event_of q head.event ≡ event_of p head.event = event_of_same p q grows head.event within.event in
+    let reply : reply_of q head.reply ≡ reply_of p head.reply = reply_of_same p q grows head.reply within.reply in
     let part : map (row_of q) (slice_range rows head.first head.end) ≡ map (row_of p) (slice_range rows head.first head.end) =
-      map-same (RowWithin p) (row_of q) (row_of p) (row_of-same p q grows) (slice_range rows head.first head.end) (All-take (RowWithin p) (head.end - head.first) (drop head.first rows) (All-drop (RowWithin p) head.first rows rows_within)) in
+    map-same (RowWithin p) (row_of q) (row_of p) (row_of_same p q grows) (slice_range rows head.first head.end) (All-take (RowWithin p) (head.end - head.first) (drop head.first rows) (All-drop (RowWithin p) head.first rows rows_within)) in
     cc
 
 pub turns-grown : (p q : Payloads) → Grows p q → (heads : List TurnHead) (rows : List FlatRow) (begun : ℕ) → Kept p heads rows begun → map (turn_of q rows) heads ≡ map (turn_of p rows) heads
 turns-grown p q grows heads rows begun kept =
-    map-same (TurnWithin p begun) (turn_of q rows) (turn_of p rows) (turn_of-same p q grows rows begun kept.rows_within) heads kept.turns_within
+    map-same (TurnWithin p begun) (turn_of q rows) (turn_of p rows) (turn_of_same p q grows rows begun kept.rows_within) heads kept.turns_within
 
 pub rows-grown : (p q : Payloads) → Grows p q → (heads : List TurnHead) (rows : List FlatRow) (begun : ℕ) → Kept p heads rows begun → map (row_of q) (drop begun rows) ≡ map (row_of p) (drop begun rows)
 rows-grown p q grows heads rows begun kept =
-    map-same (RowWithin p) (row_of q) (row_of p) (row_of-same p q grows) (drop begun rows) (All-drop (RowWithin p) begun rows kept.rows_within)
+    map-same (RowWithin p) (row_of q) (row_of p) (row_of_same p q grows) (drop begun rows) (All-drop (RowWithin p) begun rows kept.rows_within)
 
 pub kept-grown : (p q : Payloads) → Grows p q → (heads : List TurnHead) (rows : List FlatRow) (begun : ℕ) → Kept p heads rows begun → Kept q heads rows begun
 kept-grown p q grows heads rows begun kept = record {
-  rows_within = All-weaker (RowWithin p) (RowWithin q) (row_within-grown p q grows) rows kept.rows_within;
+  rows_within = All-weaker (RowWithin p) (RowWithin q) (row_within_grown p q grows) rows kept.rows_within;
   turns_within = All-weaker (TurnWithin p begun) (TurnWithin q begun) (λ head within. record {
-    event = event_within-grown p q grows head.event within.event;
-    reply = reply_within-grown p q grows head.reply within.reply;
+    event = event_within_grown p q grows head.event within.event;
+    reply = reply_within_grown p q grows head.reply within.reply;
     ordered = within.ordered;
     ended = within.ended;
   }) heads kept.turns_within;
@@ -109,9 +110,9 @@ turns-abandoned p heads rows begun kept =
     let all : begun ≤ length (take begun rows) = omega (arith, length-take begun rows, kept.begun_within) in
     map-same (TurnWithin p begun) (turn_of p (take begun rows)) (turn_of p rows)
     (λ head within.
-      turn_of-same_rows p rows (take begun rows) head
-      (sym (slice_range_grown (take begun rows) (drop begun rows) head.first head.end within.ordered (omega (arith, within.ended, all)))
-      ∙ ap (λ whole. slice_range whole head.first head.end) parts))
+    turn_of_same_rows p rows (take begun rows) head
+    (sym (slice_range_grown (take begun rows) (drop begun rows) head.first head.end within.ordered (omega (arith, within.ended, all)))
+    ∙ ap (λ whole. slice_range whole head.first head.end) parts))
     heads kept.turns_within
 
 pub rows-abandoned : (p : Payloads) (rows : List FlatRow) (begun : ℕ) → map (row_of p) (drop begun (take begun rows)) ≡ []

@@ -4,3 +4,5 @@ pub mod Within
 pub mod Flat
 pub mod Rooms
 pub mod Laid
+pub mod Grows
+pub mod Copied

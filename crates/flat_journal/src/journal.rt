@@ -120,7 +120,12 @@ impl FlatJournal {
     {
         self.arena.make_room(room.frames, room.bytes)?;
         reserve_both(&mut self.turns, room.turns, &mut self.rows, room.rows)?;
-        reserve_both(&mut self.filters, room.filters, &mut self.setups, room.setups)
+        reserve_both(
+            &mut self.filters,
+            room.filters,
+            &mut self.setups,
+            room.setups,
+        )
     }
 
     /// How many frames there are: where the next one will stand.

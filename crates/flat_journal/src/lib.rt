@@ -2,6 +2,7 @@
 //! frames, so that a frame's bytes stand once for all that show them.
 #![tactic(auto)]
 
+mod copying;
 pub mod journal;
 pub mod types;
 

@@ -14,10 +14,10 @@ invariant_of-self c =
     let end : c.len-end.result ≡ length c.self.inside.rows.items = omega arith in
     rw (c.push_reserved.ensures.items, end)
     (kept-ended (payloads_of c.self.inside) c.self.inside.turns.items c.self.inside.rows.items c.self.inside.begun
-      (record { who = c.args.who; event = c.args.event; reply = c.args.reply; first = c.self.inside.begun; end = length c.self.inside.rows.items }) c.self.invariant
-      (record {
-        event = subst E payloads c.requires.event;
-        reply = subst R payloads c.requires.reply;
-        ordered = c.self.invariant.begun_within;
-        ended = omega arith;
-      }))
+    (record { who = c.args.who; event = c.args.event; reply = c.args.reply; first = c.self.inside.begun; end = length c.self.inside.rows.items }) c.self.invariant
+    (record {
+      event = subst E payloads c.requires.event;
+      reply = subst R payloads c.requires.reply;
+      ordered = c.self.invariant.begun_within;
+      ended = omega arith;
+    }))

@@ -1,0 +1,68 @@
+-- A flat row, event or reply shows the one that it is a copy of.
+use Rattle.std.proofs.Common.{◌≡◌, ℕ, List, ap, refl}
+use Rattle.journal_types.specs.declared.Event.{Event}
+use Rattle.journal_types.specs.declared.Event.TheVariants as event
+use Rattle.journal_types.specs.declared.Reply.{Reply}
+use Rattle.journal_types.specs.declared.Reply.TheVariants as reply
+use Rattle.journal_types.specs.declared.Row.{Row}
+use Rattle.journal_types.specs.declared.Row.TheVariants as row
+use Rattle.frame_arena.specs.declared.FrameSpan.{FrameSpan}
+use Rattle.frame_arena.specs.Spans.{frames_at, SpanWithin}
+use Rattle.flat_journal.specs.declared.copying.RowPlaces.{RowPlaces}
+use Rattle.flat_journal.specs.declared.copying.EventPlaces.{EventPlaces}
+use Rattle.flat_journal.specs.Payloads.{Payloads}
+use Rattle.flat_journal.specs.Shown.{event_of, reply_of, row_of}
+use Rattle.flat_journal.specs.Within.{EventWithin, ReplyWithin, RowWithin}
+use Rattle.flat_journal.specs.Copied.{RowStands, EventStands, flat_row_of, flat_event_of, flat_reply_of, reply_frames}
+
+pub row_shown : (p : Payloads) (at : RowPlaces) (r : Row) → RowStands p at r → row_of p (flat_row_of at r) ≡ r
+row_shown p at (row.Issue list owner config direction cancel origin frames) s = ap (row.Issue list owner config direction cancel origin) s.frames
+row_shown p at (row.Wire list frames) s = ap (row.Wire list) s.frames
+row_shown p at (row.Deliver list binding how frames) s = ap (row.Deliver list binding how) s.frames
+row_shown p at (row.Config config filters) s = ap (row.Config config) s.filters
+row_shown p at (row.OidIssue request parent binding kind code value) s = ap (row.OidIssue request parent binding kind code) s.value.1
+row_shown p at (row.OidDone request status value) s = ap (row.OidDone request status) s.value.1
+row_shown p at (row.CrossOut message way frames) s = ap (row.CrossOut message way) s.frames
+row_shown p at (row.CrossIn stack message way frames) s = ap (row.CrossIn stack message way) s.frames
+row_shown p at _ s = refl
+
+pub row_within : (p : Payloads) (at : RowPlaces) (r : Row) → RowStands p at r → RowWithin p (flat_row_of at r)
+row_within p at (row.Issue list owner config direction cancel origin frames) s = s.frames_within
+row_within p at (row.Wire list frames) s = s.frames_within
+row_within p at (row.Deliver list binding how frames) s = s.frames_within
+row_within p at (row.Config config filters) s = s.filters_within
+row_within p at (row.OidIssue request parent binding kind code value) s = s.value.0
+row_within p at (row.OidDone request status value) s = s.value.0
+row_within p at (row.CrossOut message way frames) s = s.frames_within
+row_within p at (row.CrossIn stack message way frames) s = s.frames_within
+row_within p at _ s = tt
+
+pub event_shown : (p : Payloads) (at : EventPlaces) (e : Event) → EventStands p at e → event_of p (flat_event_of at e) ≡ e
+event_shown p at (event.Insert kind position setup) s = ap (event.Insert kind position) s.setup.1
+event_shown p at (event.Replace filter kind setup) s = ap (event.Replace filter kind) s.setup.1
+event_shown p at (event.Send binding cancel frames) s = ap (event.Send binding cancel) s.frames
+event_shown p at (event.Indicate frames) s = ap event.Indicate s.frames
+event_shown p at (event.Lend frames) s = ap event.Lend s.frames
+event_shown p at (event.Ask binding kind code value) s = ap (event.Ask binding kind code) s.value.1
+event_shown p at (event.CrossPut stack message vlan frames) s = ap (event.CrossPut stack message vlan) s.frames
+event_shown p at (event.CrossPutUp stack message frames) s = ap (event.CrossPutUp stack message) s.frames
+event_shown p at _ s = refl
+
+pub event_within : (p : Payloads) (at : EventPlaces) (e : Event) → EventStands p at e → EventWithin p (flat_event_of at e)
+event_within p at (event.Insert kind position setup) s = s.setup.0
+event_within p at (event.Replace filter kind setup) s = s.setup.0
+event_within p at (event.Send binding cancel frames) s = s.frames_within
+event_within p at (event.Indicate frames) s = s.frames_within
+event_within p at (event.Lend frames) s = s.frames_within
+event_within p at (event.Ask binding kind code value) s = s.value.0
+event_within p at (event.CrossPut stack message vlan frames) s = s.frames_within
+event_within p at (event.CrossPutUp stack message frames) s = s.frames_within
+event_within p at _ s = tt
+
+pub reply_shown : (p : Payloads) (at : FrameSpan) (r : Reply) → frames_at p.frames at ≡ reply_frames r → reply_of p (flat_reply_of at r) ≡ r
+reply_shown p at (reply.Taken message frames) s = ap (reply.Taken message) s
+reply_shown p at _ s = refl
+
+pub reply_within : (p : Payloads) (at : FrameSpan) (r : Reply) → SpanWithin p.frames at → ReplyWithin p (flat_reply_of at r)
+reply_within p at (reply.Taken message frames) s = s
+reply_within p at _ s = tt
