@@ -1,5 +1,7 @@
 -- A flat row, event or reply shows the one that it is a copy of.
-use Rattle.std.proofs.Common.{◌≡◌, ℕ, List, ap, refl}
+use Rattle.std.proofs.Common.{◌≡◌, ℕ, List, ◌∙◌, ap, refl, arith}
+use Rattle.std.specs.Prelude.{Some, None}
+use Rattle.std.specs.declared.option.Option.{Option}
 use Rattle.journal_types.specs.declared.Event.{Event}
 use Rattle.journal_types.specs.declared.Event.TheVariants as event
 use Rattle.journal_types.specs.declared.Reply.{Reply}
@@ -10,10 +12,13 @@ use Rattle.frame_arena.specs.declared.FrameSpan.{FrameSpan}
 use Rattle.frame_arena.specs.Spans.{frames_at, SpanWithin}
 use Rattle.flat_journal.specs.declared.copying.RowPlaces.{RowPlaces}
 use Rattle.flat_journal.specs.declared.copying.EventPlaces.{EventPlaces}
-use Rattle.flat_journal.specs.Payloads.{Payloads}
+use Rattle.flat_journal.specs.declared.types.ValueNo.{ValueNo}
+use Rattle.flat_journal.specs.Payloads.{Payloads, filters_at, value_at}
+use Rattle.flat_journal.specs.Grows.{Grows}
 use Rattle.flat_journal.specs.Shown.{event_of, reply_of, row_of}
-use Rattle.flat_journal.specs.Within.{EventWithin, ReplyWithin, RowWithin}
-use Rattle.flat_journal.specs.Copied.{RowStands, EventStands, flat_row_of, flat_event_of, flat_reply_of, reply_frames}
+use Rattle.flat_journal.specs.Within.{FiltersWithin, EventWithin, ReplyWithin, RowWithin}
+use Rattle.flat_journal.specs.Copied.{RowStands, EventStands, ValueStands, SetupStands, row_frames, row_value, row_filters, event_frames, event_value, event_setup, flat_row_of, flat_event_of, flat_reply_of, reply_frames}
+use Rattle.flat_journal.proofs.Grown.{grows_twice, more_frames, frames_at_same, value_at_same}
 
 pub row_shown : (p : Payloads) (at : RowPlaces) (r : Row) → RowStands p at r → row_of p (flat_row_of at r) ≡ r
 row_shown p at (row.Issue list owner config direction cancel origin frames) s = ap (row.Issue list owner config direction cancel origin) s.frames
@@ -66,3 +71,30 @@ reply_shown p at _ s = refl
 pub reply_within : (p : Payloads) (at : FrameSpan) (r : Reply) → SpanWithin p.frames at → ReplyWithin p (flat_reply_of at r)
 reply_within p at (reply.Taken message frames) s = s
 reply_within p at _ s = tt
+
+-- what stands after one step stands when further payloads are added
+
+value_stands_grown : (p q : Payloads) → Grows p q → (at : ValueNo) (value : Option (List ℕ)) → ValueStands p at value → ValueStands q at value
+value_stands_grown p q g at None s = tt
+value_stands_grown p q g at (Some value) s = (omega (arith, s.0, more_frames p q g), value_at_same p q g at s.0 ∙ s.1)
+
+pub row_stands : (p q r : Payloads) → Grows p q → Grows q r → (at : RowPlaces) (made : Row) → SpanWithin p.frames at.frames → frames_at p.frames at.frames ≡ row_frames made → ValueStands q at.value (row_value made) → FiltersWithin r at.filters → filters_at r.filters at.filters ≡ row_filters made → RowStands r at made
+row_stands p q r g h at made frames_within frames value filters_within filters =
+    let both : Grows p r = grows_twice p q r g h in
+    record {
+      frames_within = omega (arith, more_frames p r both, frames_within);
+      frames = frames_at_same p r both at.frames frames_within ∙ frames;
+      value = value_stands_grown q r h at.value (row_value made) value;
+      filters_within = filters_within;
+      filters = filters;
+    }
+
+pub event_stands : (p q r : Payloads) → Grows p q → Grows q r → (at : EventPlaces) (made : Event) → SpanWithin p.frames at.frames → frames_at p.frames at.frames ≡ event_frames made → ValueStands q at.value (event_value made) → SetupStands r at.setup (event_setup made) → EventStands r at made
+event_stands p q r g h at made frames_within frames value setup =
+    let both : Grows p r = grows_twice p q r g h in
+    record {
+      frames_within = omega (arith, more_frames p r both, frames_within);
+      frames = frames_at_same p r both at.frames frames_within ∙ frames;
+      value = value_stands_grown q r h at.value (event_value made) value;
+      setup = setup;
+    }

@@ -20,7 +20,8 @@ use Rattle.flat_journal.specs.declared.types.FlatReply.TheVariants as flat_reply
 use Rattle.flat_journal.specs.declared.types.FlatRow.{FlatRow}
 use Rattle.flat_journal.specs.declared.types.FlatRow.TheVariants as flat_row
 use Rattle.flat_journal.specs.Payloads.{Payloads, filters_at, value_at, setup_at, no_setup}
-use Rattle.flat_journal.specs.Grows.{Grows}
+use Rattle.flat_journal.specs.Grows.{Grows, OnlyGrows}
+use Rattle.flat_journal.specs.Flat.{FlatView}
 use Rattle.flat_journal.specs.Shown.{event_of, reply_of, row_of}
 use Rattle.flat_journal.specs.Within.{FiltersWithin, ValueWithin, SetupWithin, EventWithin, ReplyWithin, RowWithin}
 
@@ -71,13 +72,13 @@ value_at_same p q grows value within = rw grows.frames.1 (get_or_append_left p.f
 pub setup_at_same : (p q : Payloads) → Grows p q → (setup : SetupNo) → SetupWithin p setup → setup_at q.setups setup ≡ setup_at p.setups setup
 setup_at_same p q grows setup within = rw grows.setups.1 (get_or_append_left p.setups grows.setups.0 no_setup setup.0 within)
 
-more_frames : (p q : Payloads) → Grows p q → length p.frames ≤ length q.frames
+pub more_frames : (p q : Payloads) → Grows p q → length p.frames ≤ length q.frames
 more_frames p q grows = rw grows.frames.1 (omega (arith, length-append p.frames grows.frames.0))
 
-more_filters : (p q : Payloads) → Grows p q → length p.filters ≤ length q.filters
+pub more_filters : (p q : Payloads) → Grows p q → length p.filters ≤ length q.filters
 more_filters p q grows = rw grows.filters.1 (omega (arith, length-append p.filters grows.filters.0))
 
-more_setups : (p q : Payloads) → Grows p q → length p.setups ≤ length q.setups
+pub more_setups : (p q : Payloads) → Grows p q → length p.setups ≤ length q.setups
 more_setups p q grows = rw grows.setups.1 (omega (arith, length-append p.setups grows.setups.0))
 
 pub event_of_same : (p q : Payloads) → Grows p q → (e : FlatEvent) → EventWithin p e → event_of q e ≡ event_of p e
@@ -131,3 +132,16 @@ row_within_grown p q g (flat_row.OidDone request status value) w = omega (arith,
 row_within_grown p q g (flat_row.CrossOut message way frames) w = omega (arith, more_frames p q g)
 row_within_grown p q g (flat_row.CrossIn stack message way frames) w = omega (arith, more_frames p q g)
 row_within_grown p q g _ w = tt
+
+-- whole journals
+
+pub only_grows_nothing : (v : FlatView) → OnlyGrows v v
+only_grows_nothing v = record { head = refl; turns = refl; rows = refl; payloads = grows_nothing v.payloads }
+
+pub only_grows_twice : (u v w : FlatView) → OnlyGrows u v → OnlyGrows v w → OnlyGrows u w
+only_grows_twice u v w first second = record {
+  head = second.head ∙ first.head;
+  turns = second.turns ∙ first.turns;
+  rows = second.rows ∙ first.rows;
+  payloads = grows_twice u.payloads v.payloads w.payloads first.payloads second.payloads;
+}

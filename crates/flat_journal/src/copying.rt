@@ -1,5 +1,5 @@
 //! Owned turns, copied into a journal.
-ghost use Rattle.std.specs.Prelude.{◌≡◌, MatchOption, None, Some};
+ghost use Rattle.std.specs.Prelude.{◌≡◌, option_map};
 ghost use Rattle.flat_journal.specs.Copied.{row_frames, row_value, row_filters, event_frames, event_value, event_setup, reply_frames, flat_row_of, flat_event_of, flat_reply_of};
 
 use crate::types::{FilterSpan, FlatEvent, FlatReply, FlatRow, SetupNo, ValueNo};
@@ -37,7 +37,7 @@ pub(crate) fn frames_of_row(row: &Row) -> &[Frame]
 }
 
 pub(crate) fn value_of_row(row: &Row) -> Option<&OidValue>
-    ensures { MatchOption result (row_value row.now ≡ None) (λ value. row_value row.now ≡ Some value.now) }
+    ensures { option_map (λ value. value.now) result ≡ row_value row.now }
 {
     match row {
         Row::OidIssue { value, .. } | Row::OidDone { value, .. } => Some(value),
@@ -68,7 +68,7 @@ pub(crate) fn frames_of_event(event: &Event) -> &[Frame]
 }
 
 pub(crate) fn value_of_event(event: &Event) -> Option<&OidValue>
-    ensures { MatchOption result (event_value event.now ≡ None) (λ value. event_value event.now ≡ Some value.now) }
+    ensures { option_map (λ value. value.now) result ≡ event_value event.now }
 {
     match event {
         Event::Ask { value, .. } => Some(value),
@@ -77,7 +77,7 @@ pub(crate) fn value_of_event(event: &Event) -> Option<&OidValue>
 }
 
 pub(crate) fn setup_of_event(event: &Event) -> Option<&Setup>
-    ensures { MatchOption result (event_setup event.now ≡ None) (λ setup. event_setup event.now ≡ Some setup.now) }
+    ensures { option_map (λ setup. setup.now) result ≡ event_setup event.now }
 {
     match event {
         Event::Insert { setup, .. } | Event::Replace { setup, .. } => Some(setup),

@@ -4,6 +4,7 @@
 
 mod copying;
 pub mod journal;
+pub mod turns;
 pub mod types;
 
 pub use crate::journal::FlatJournal;

@@ -1,4 +1,6 @@
 //! Events, replies and rows that show frames, filters, values and set-ups by where they stand.
+ghost use Rattle.std.specs.Prelude.{◌≡◌};
+ghost use Rattle.flat_journal.specs.Rooms.{no_room};
 
 use frame_arena::FrameSpan;
 use journal_types::{Handler, How, OutWay, PassWay, PhaseOf, Refusal, Target, Way};
@@ -242,4 +244,20 @@ pub struct Room {
     pub bytes: usize,
     pub filters: usize,
     pub setups: usize,
+}
+
+impl Room {
+    /// Room for nothing.
+    pub fn none() -> Room
+        ensures { result ≡ no_room }
+    {
+        Room {
+            turns: 0,
+            rows: 0,
+            frames: 0,
+            bytes: 0,
+            filters: 0,
+            setups: 0,
+        }
+    }
 }
