@@ -1,5 +1,7 @@
 -- A flat row, event or reply shows the one that it is a copy of.
-use Rattle.std.proofs.Common.{◌≡◌, ℕ, List, ◌∙◌, ap, refl, arith}
+use Rattle.std.proofs.Common.{◌≡◌, ℕ, List, [], ◌∷◌, ◌++◌, ◌+◌, ◌<◌, length, take, get_or, ◌∙◌, ap, sym, refl, arith}
+use Rattle.std.proofs.lemmas.List.{append_assoc, take_more}
+use Rattle.journal_types.specs.declared.Turn.{Turn}
 use Rattle.std.specs.Prelude.{Some, None}
 use Rattle.std.specs.declared.option.Option.{Option}
 use Rattle.journal_types.specs.declared.Event.{Event}
@@ -98,3 +100,18 @@ event_stands p q r g h at made frames_within frames value setup =
       value = value_stands_grown q r h at.value (event_value made) value;
       setup = setup;
     }
+
+-- one more row is copied
+pub one_row_more : (old loop made given : List Row) (i : ℕ) (x : Row) → made ≡ loop ++ x ∷ [] → loop ≡ old ++ take i given → x ≡ get_or given i x → i < length given → made ≡ old ++ take (i + 1) given
+one_row_more old loop made given i x pushed so_far here within =
+    let more : take (i + 1) given ≡ take i given ++ get_or given i x ∷ [] = take_more given i x within in
+    let assoc : (old ++ take i given) ++ x ∷ [] ≡ old ++ (take i given ++ x ∷ []) = append_assoc old (take i given) (x ∷ []) in
+    pushed ∙ ap (λ xs. xs ++ x ∷ []) so_far ∙ assoc ∙ ap (λ y. old ++ (take i given ++ y ∷ [])) here ∙ ap (λ xs. old ++ xs) (sym more)
+
+-- the turn that is added is the one that is copied
+pub turn_copied : (old made : List Turn) (turn : Turn) (e : Event) (r : Reply) (rows : List Row) → made ≡ old ++ (record { who = turn.who; event = e; reply = r; rows = rows }) ∷ [] → e ≡ turn.event → r ≡ turn.reply → rows ≡ turn.rows → made ≡ old ++ turn ∷ []
+turn_copied old made turn e r rows ended event reply rows_same =
+    ended
+    ∙ ap (λ (x : Event). let t : Turn = record { who = turn.who; event = x; reply = r; rows = rows } in old ++ t ∷ []) event
+    ∙ ap (λ (x : Reply). let t : Turn = record { who = turn.who; event = turn.event; reply = x; rows = rows } in old ++ t ∷ []) reply
+    ∙ ap (λ (x : List Row). let t : Turn = record { who = turn.who; event = turn.event; reply = turn.reply; rows = x } in old ++ t ∷ []) rows_same

@@ -1,5 +1,5 @@
 -- What an event, a reply and a row show stays the same when payloads are added.
-use Rattle.std.proofs.Common.{◌≡◌, ℕ, List, [], ◌∷◌, ◌++◌, ◌+◌, ◌<◌, ◌≤◌, length, map, take, drop, All, ap, ◌∙◌, sym, refl, arith}
+use Rattle.std.proofs.Common.{◌≡◌, ℕ, List, [], ◌∷◌, ◌++◌, ◌+◌, ◌<◌, ◌≤◌, length, map, take, drop, All, ap, ◌∙◌, sym, subst, refl, arith}
 use Rattle.std.proofs.lemmas.List.{append-nil, append_assoc, length-append, get_or_append_left, drop-append-le, take-append-le, length-drop}
 use Rattle.std.proofs.lemmas.List.Elements.{All-head, All-tail}
 use Rattle.journal_types.specs.declared.Setup.{Setup}
@@ -132,6 +132,9 @@ row_within_grown p q g (flat_row.OidDone request status value) w = omega (arith,
 row_within_grown p q g (flat_row.CrossOut message way frames) w = omega (arith, more_frames p q g)
 row_within_grown p q g (flat_row.CrossIn stack message way frames) w = omega (arith, more_frames p q g)
 row_within_grown p q g _ w = tt
+
+pub grows_into : (p q r : Payloads) → Grows p q → r ≡ q → Grows p r
+grows_into p q r grows same = let P : Payloads → Type 0 = λ x. Grows p x in subst P (sym same) grows
 
 -- whole journals
 

@@ -127,6 +127,61 @@ impl FlatJournal {
         let frames = self.copy_frames(frames_of_reply(reply))?;
         Ok(flat_reply(frames, reply))
     }
+
+    /// Copies rows, as those of the turn under way.
+    fn copy_rows(&mut self, rows: &[Row]) -> Result<(), OutOfMemory>
+        ensures head { self.new.head ≡ self.old.head }
+        ensures turns { self.new.turns ≡ self.old.turns }
+        ensures rows { OnOk result (self.new.rows ≡ self.old.rows ++ rows.now) }
+        ensures payloads { Grows self.old.payloads self.new.payloads }
+    {
+        for row in rows {
+            let flat = self.copy_row(row)?;
+            self.make_room(Room {
+                rows: 1,
+                ..Room::none()
+            })?;
+            self.write_row(flat);
+        }
+        Ok(())
+    }
+
+    fn copy_turn(&mut self, alloc: Global, turn: &Turn) -> Result<(), OutOfMemory>
+        requires { self.old.rows ≡ [] }
+        ensures head { self.new.head ≡ self.old.head }
+        ensures turns { OnOk result (self.new.turns ≡ self.old.turns ++ turn.now ∷ []) }
+        ensures turns_kept { OnErr result (self.new.turns ≡ self.old.turns) }
+        ensures rows { OnOk result (self.new.rows ≡ []) }
+        ensures payloads { Grows self.old.payloads self.new.payloads }
+    {
+        self.copy_rows(turn.rows.items())?;
+        let event = self.copy_event(alloc, &turn.event)?;
+        let reply = self.copy_reply(&turn.reply)?;
+        self.make_room(Room {
+            turns: 1,
+            ..Room::none()
+        })?;
+        self.end_turn(turn.who, event, reply);
+        Ok(())
+    }
+
+    /// Adds a copy of a turn, where no turn is under way.
+    pub fn push_turn(&mut self, alloc: Global, turn: &Turn) -> Result<(), OutOfMemory>
+        requires { self.old.rows ≡ [] }
+        ensures head { self.new.head ≡ self.old.head }
+        ensures turns { OnOk result (self.new.turns ≡ self.old.turns ++ turn.now ∷ []) }
+        ensures turns_kept { OnErr result (self.new.turns ≡ self.old.turns) }
+        ensures rows { self.new.rows ≡ [] }
+        ensures payloads { Grows self.old.payloads self.new.payloads }
+    {
+        match self.copy_turn(alloc, turn) {
+            Ok(()) => Ok(()),
+            Err(fault) => {
+                self.abandon_rows();
+                Err(fault)
+            }
+        }
+    }
 }
 
 fn copied_program(alloc: Global, program: &Program) -> Result<Program, OutOfMemory>
