@@ -15,7 +15,7 @@ use Rattle.frame_arena.specs.Spans.{frames_at, SpanWithin}
 use Rattle.flat_journal.specs.declared.copying.RowPlaces.{RowPlaces}
 use Rattle.flat_journal.specs.declared.copying.EventPlaces.{EventPlaces}
 use Rattle.flat_journal.specs.declared.types.ValueNo.{ValueNo}
-use Rattle.flat_journal.specs.Payloads.{Payloads, filters_at, value_at}
+use Rattle.flat_journal.specs.Payloads.{Payloads, filters_at}
 use Rattle.flat_journal.specs.Grows.{Grows}
 use Rattle.flat_journal.specs.Shown.{event_of, reply_of, row_of}
 use Rattle.flat_journal.specs.Within.{FiltersWithin, EventWithin, ReplyWithin, RowWithin}

@@ -1,16 +1,15 @@
 -- What is shown of heads and rows when a row, a payload or a turn is added, or rows are taken away.
-use Rattle.std.proofs.Common.{◌≡◌, ℕ, List, [], ◌∷◌, ◌++◌, ◌+◌, ◌-◌, ◌≤◌, length, map, take, drop, All, ◌∙◌, ap, refl, sym, arith}
+use Rattle.std.proofs.Common.{◌≡◌, ℕ, List, [], ◌∷◌, ◌++◌, ◌-◌, ◌≤◌, length, map, take, drop, All, ◌∙◌, ap, refl, sym, arith}
 use Rattle.std.specs.Prelude.{slice_range}
-use Rattle.std.proofs.lemmas.List.{length-append, map_push, map-append, drop-append-le, drop_all, take_rest, take-append-drop, length-take}
+use Rattle.std.proofs.lemmas.List.{length-append, map_push, drop-append-le, drop_all, take_rest, take-append-drop, length-take}
 use Rattle.std.proofs.lemmas.List.Elements.{All-head, All-tail, All-push, All-take, All-drop, All-weaker}
 use Rattle.frame_arena.proofs.Ranges.{slice_range_grown}
-use Rattle.journal_types.specs.declared.Row.{Row}
 use Rattle.journal_types.specs.declared.Turn.{Turn}
 use Rattle.flat_journal.specs.declared.types.FlatRow.{FlatRow}
 use Rattle.flat_journal.specs.declared.types.TurnHead.{TurnHead}
 use Rattle.flat_journal.specs.Payloads.{Payloads}
 use Rattle.flat_journal.specs.Shown.{event_of, reply_of, row_of, turn_of}
-use Rattle.flat_journal.specs.Within.{EventWithin, ReplyWithin, RowWithin, TurnWithin}
+use Rattle.flat_journal.specs.Within.{RowWithin, TurnWithin}
 use Rattle.flat_journal.specs.Flat.{Kept}
 use Rattle.flat_journal.specs.Grows.{Grows}
 use Rattle.flat_journal.proofs.Grown.{event_of_same, reply_of_same, row_of_same, event_within_grown, reply_within_grown, row_within_grown}

@@ -1,5 +1,5 @@
 -- What an event, a reply, a row and the head of a turn refer to is there.
-use Rattle.std.specs.Prelude.{ℕ, ◌+◌, ◌<◌, ◌≤◌, List, length, ⊤}
+use Rattle.std.specs.Prelude.{ℕ, ◌+◌, ◌<◌, ◌≤◌, length, ⊤}
 use Rattle.frame_arena.specs.Spans.{SpanWithin}
 use Rattle.flat_journal.specs.declared.types.FilterSpan.{FilterSpan}
 use Rattle.flat_journal.specs.declared.types.SetupNo.{SetupNo}

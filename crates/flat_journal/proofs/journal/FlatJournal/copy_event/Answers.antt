@@ -1,10 +1,8 @@
-use Rattle.std.proofs.Common.{◌≡◌, ◌∙◌, ap, refl}
+use Rattle.std.proofs.Common.{◌≡◌, ◌∙◌}
 use Rattle.std.specs.Prelude.{option_map}
 use Rattle.frame_arena.specs.Spans.{frames_at, SpanWithin}
 use Rattle.flat_journal.specs.declared.copying.EventPlaces.{EventPlaces}
-use Rattle.flat_journal.specs.Payloads.{Payloads, filters_at}
-use Rattle.flat_journal.specs.Shown.{event_of}
-use Rattle.flat_journal.specs.Within.{FiltersWithin}
+use Rattle.flat_journal.specs.Payloads.{Payloads}
 use Rattle.flat_journal.specs.Copied.{event_frames, event_value, event_setup, ValueStands, SetupStands, EventStands}
 use Rattle.flat_journal.proofs.Copies.{event_stands, event_shown, event_within}
 use Rattle.flat_journal.proofs.journal.FlatJournal.copy_event.Goals as goal

@@ -1,11 +1,10 @@
-use Rattle.std.proofs.Common.{◌≡◌, ◌∙◌, ap, refl}
+use Rattle.std.proofs.Common.{◌≡◌, ◌∙◌}
 use Rattle.std.specs.Prelude.{option_map}
 use Rattle.frame_arena.specs.Spans.{frames_at, SpanWithin}
 use Rattle.flat_journal.specs.declared.copying.RowPlaces.{RowPlaces}
 use Rattle.flat_journal.specs.Payloads.{Payloads, filters_at}
-use Rattle.flat_journal.specs.Shown.{row_of}
 use Rattle.flat_journal.specs.Within.{FiltersWithin}
-use Rattle.flat_journal.specs.Copied.{row_frames, row_value, row_filters, ValueStands, SetupStands, RowStands}
+use Rattle.flat_journal.specs.Copied.{row_frames, row_value, row_filters, ValueStands, RowStands}
 use Rattle.flat_journal.proofs.Copies.{row_stands, row_shown, row_within}
 use Rattle.flat_journal.proofs.journal.FlatJournal.copy_row.Goals as goal
 

@@ -1,4 +1,4 @@
-use Rattle.std.proofs.Common.{◌∙◌, ap, refl, [], ◌∷◌}
+use Rattle.std.proofs.Common.{◌∙◌, ap, refl}
 use Rattle.flat_journal.specs.Flat.{FlatView}
 use Rattle.flat_journal.specs.Laid.{payloads_of}
 use Rattle.flat_journal.specs.Payloads.{Payloads}

@@ -1,7 +1,7 @@
 use Rattle.std.proofs.Common.{◌∙◌, ap}
 use Rattle.flat_journal.specs.Flat.{FlatView}
 use Rattle.flat_journal.specs.Laid.{payloads_of}
-use Rattle.flat_journal.proofs.Laid.{turns-row_added, rows-row_added, kept-row_added}
+use Rattle.flat_journal.proofs.Laid.{turns-row_added}
 use Rattle.flat_journal.proofs.journal.FlatJournal.write_row.Goals as goal
 
 pub returns-clause-turns : goal.returns-clause-turns
