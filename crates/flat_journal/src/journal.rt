@@ -114,7 +114,10 @@ impl FlatJournal {
 
     /// Makes at least so much room.
     pub fn make_room(&mut self, room: Room) -> Result<(), OutOfMemory>
-        ensures same { self.new ≡ record self.old { room = self.new.room } }
+        ensures head { self.new.head ≡ self.old.head }
+        ensures turns { self.new.turns ≡ self.old.turns }
+        ensures rows { self.new.rows ≡ self.old.rows }
+        ensures payloads { self.new.payloads ≡ self.old.payloads }
         ensures room { OnOk result (Covers self.new.room room) }
         ensures kept { Covers self.new.room self.old.room }
     {

@@ -1,5 +1,4 @@
 use Rattle.std.proofs.Common.{◌≡◌, ◌∙◌, ◌++◌, ap}
-use Rattle.flat_journal.specs.Flat.{FlatView}
 use Rattle.flat_journal.specs.Grows.{Grows}
 use Rattle.flat_journal.specs.Payloads.{Payloads}
 use Rattle.flat_journal.specs.Shown.{event_of, reply_of}
@@ -14,14 +13,14 @@ returns-in_err-make_room-clause-payloads c =
     let q : Payloads = c.copy_event.new.self.payloads in
     let r : Payloads = c.copy_reply.new.self.payloads in
     let grows : Grows o r = grows_twice o p r c.copy_rows.ensures.payloads (grows_twice p q r c.copy_event.ensures.grows.payloads c.copy_reply.ensures.grows.payloads) in
-    grows_into o r c.make_room.new.self.payloads grows (ap (λ (v : FlatView). v.payloads) c.make_room.ensures.same)
+    grows_into o r c.make_room.new.self.payloads grows c.make_room.ensures.payloads
 
 pub returns-clause-turns : goal.returns-clause-turns
 returns-clause-turns c =
     let q : Payloads = c.copy_event.new.self.payloads in
     let r : Payloads = c.copy_reply.new.self.payloads in
     let now : Payloads = c.make_room.new.self.payloads in
-    let payloads : now ≡ r = ap (λ (v : FlatView). v.payloads) c.make_room.ensures.same in
+    let payloads : now ≡ r = c.make_room.ensures.payloads in
     let event_shown : event_of q c.in_ok-event.event ≡ c.args.turn.now.event = c.in_ok-event.ensures.shown in
     let event : event_of now c.in_ok-event.event ≡ c.args.turn.now.event =
     ap (λ (x : Payloads). event_of x c.in_ok-event.event) payloads
@@ -32,14 +31,14 @@ returns-clause-turns c =
     ap (λ (x : Payloads). reply_of x c.in_ok-reply.reply) payloads ∙ reply_shown in
     let written : c.copy_rows.new.self.rows ≡ c.args.self.now.rows ++ c.items.result.now = c.in_ok-copy_rows.ensures.rows in
     let rows : c.make_room.new.self.rows ≡ c.args.turn.now.rows =
-    ap (λ (v : FlatView). v.rows) c.make_room.ensures.same
+    c.make_room.ensures.rows
     ∙ c.copy_reply.ensures.grows.rows
     ∙ c.copy_event.ensures.grows.rows
     ∙ written
     ∙ ap (λ xs. xs ++ c.items.result.now) c.requires
     ∙ c.items.ensures in
     let turns : c.make_room.new.self.turns ≡ c.args.self.now.turns =
-    ap (λ (v : FlatView). v.turns) c.make_room.ensures.same
+    c.make_room.ensures.turns
     ∙ c.copy_reply.ensures.grows.turns
     ∙ c.copy_event.ensures.grows.turns
     ∙ c.copy_rows.ensures.turns in
@@ -53,4 +52,4 @@ returns-clause-payloads c =
     let q : Payloads = c.copy_event.new.self.payloads in
     let r : Payloads = c.copy_reply.new.self.payloads in
     let grows : Grows o r = grows_twice o p r c.copy_rows.ensures.payloads (grows_twice p q r c.copy_event.ensures.grows.payloads c.copy_reply.ensures.grows.payloads) in
-    grows_into o r c.end_turn.new.self.payloads grows (c.end_turn.ensures.payloads ∙ ap (λ (v : FlatView). v.payloads) c.make_room.ensures.same)
+    grows_into o r c.end_turn.new.self.payloads grows (c.end_turn.ensures.payloads ∙ c.make_room.ensures.payloads)
