@@ -60,13 +60,13 @@ filter_plain net a x keeps l queue h h' (cloned frames c p made other spare clon
 
 -- The book stands again, and the turn may come next.
 pub record IsGiven (b b' : BookView) (a : Attached) (x : LiveList) (keeps : Bool) (who : Who) : Type 0 where
-  pub stands : Stands b' []
-  pub pumped_is : IsPumped b.head b.turns b.net a x keeps who (hands_of b' [])
+  pub stands : Stands b'.net b'.queue b'.held []
+  pub pumped_is : IsPumped b.head b.turns b.net a x keeps who (hands_of b'.queue b'.held [])
 
 -- the filter is attached, and sits at a place
 pub record HasFilter (b : BookView) (x : LiveList) (f : ℕ) : Type 0 where
   pub at : IsAtFilter b.net f
-  pub seated : IsSeated b at.a
+  pub seated : IsSeated b.held at.a
 
 at_filter_of : (net : Net) (x : LiveList) (to : Target) (f : ℕ) → to ≡ Module (Filter f) → GoesDown net x to → IsAtFilter net f
 at_filter_of net x (Module Miniport) f e (to_miniport down) = cc
@@ -74,24 +74,26 @@ at_filter_of net x (Module (Filter g)) f e (to_filter g' down at) = let same : g
 at_filter_of net x (Module (Binding b)) f e g = elim g [ ]
 at_filter_of net x Bindings f e g = elim g [ ]
 
-pub has_filter : {b : BookView} → Stands b [] → IsBetween b.head b.turns b.net → (x : LiveList) (f : ℕ) → agenda_first b.net ≡ Some (thing.List x) → x.stand ≡ stand.Passed way.Down (Module (Filter f)) → HasFilter b x f
+pub has_filter : {b : BookView} → Stands b.net b.queue b.held [] → IsBetween b.head b.turns b.net → (x : LiveList) (f : ℕ) → agenda_first b.net ≡ Some (thing.List x) → x.stand ≡ stand.Passed way.Down (Module (Filter f)) → HasFilter b x f
 has_filter {b} s between x f first stands =
     let at : IsAtFilter b.net f = at_filter_of b.net x (Module (Filter f)) f refl (goes_down between x (Module (Filter f)) first stands) in
     record { at = at; seated = s.seated f at.a at.there }
 
-pub given_to_filter : {b b' : BookView} (s : Stands b []) (between : IsBetween b.head b.turns b.net) (who : Who) (l : ListView) (queue : List Carried) (e : b.queue ≡ a_list l ∷ queue) (f : ℕ)
-    → (next_list b.net (hands_of b []) l queue s.agrees e).x.stand ≡ stand.Passed way.Down (Module (Filter f)) → (at : IsAtFilter b.net f) (keeps : Bool) (h' : Hands)
-    → Did b.net at.a (next_list b.net (hands_of b []) l queue s.agrees e).x keeps l queue (hands_of b []) h'
-    → IsSame h' (hands_of b' []) → Leaves b b' → AreShort b' [] → length b'.miniport.kept ≤ b.head.port.ring
-    → b'.net ≡ after_rows b.net (filter_rows b.net at.a (next_list b.net (hands_of b []) l queue s.agrees e).x keeps)
-    → IsGiven b b' at.a (next_list b.net (hands_of b []) l queue s.agrees e).x keeps who
+pub given_to_filter : {b b' : BookView} (s : Stands b.net b.queue b.held []) (between : IsBetween b.head b.turns b.net) (who : Who) (l : ListView) (queue : List Carried) (e : b.queue ≡ a_list l ∷ queue) (f : ℕ)
+    → (next_list b.net (hands_of b.queue b.held []) l queue s.agrees e).x.stand ≡ stand.Passed way.Down (Module (Filter f)) → (at : IsAtFilter b.net f) (keeps : Bool) (h' : Hands)
+    → Did b.net at.a (next_list b.net (hands_of b.queue b.held []) l queue s.agrees e).x keeps l queue (hands_of b.queue b.held []) h'
+    → IsSame h' (hands_of b'.queue b'.held []) → Leaves b.held b'.held → AreShort b'.queue b'.held [] → length b'.held.miniport.kept ≤ b.net.head.port.ring
+    → b'.net ≡ after_rows b.net (filter_rows b.net at.a (next_list b.net (hands_of b.queue b.held []) l queue s.agrees e).x keeps)
+    → IsGiven b b' at.a (next_list b.net (hands_of b.queue b.held []) l queue s.agrees e).x keeps who
 given_to_filter {b} {b'} s between who l queue e f stands at keeps h' did same leaves short ring net =
-    let x : LiveList = (next_list b.net (hands_of b []) l queue s.agrees e).x in
-    let p : IsPumped b.head b.turns b.net at.a x keeps who h' = pumped between who l queue (hands_of b []) h' s.agrees e f stands at keeps did in
+    let old : Hands = hands_of b.queue b.held [] in
+    let new : Hands = hands_of b'.queue b'.held [] in
+    let x : LiveList = (next_list b.net old l queue s.agrees e).x in
+    let p : IsPumped b.head b.turns b.net at.a x keeps who h' = pumped between who l queue old h' s.agrees e f stands at keeps did in
     let after : Net = after_rows b.net (filter_rows b.net at.a x keeps) in
     let there : Agrees after h' = subst (λ (n : Net). Agrees (after_rows n (filter_rows b.net at.a x keeps)) h') (sym between.is) p.agrees in
     record {
-      stands = stands_step b b' [] [] (filter_rows b.net at.a x keeps) s leaves (filter_plain b.net at.a x keeps l queue (hands_of b []) h' did) net
-          (subst (λ (n : Net). Agrees n (hands_of b' [])) (sym net) (agrees_same after h' (hands_of b' []) same there)) short ring;
-      pumped_is = record { next = p.next; agrees = agrees_same _ h' (hands_of b' []) same p.agrees };
+      stands = stands_step b.net b'.net b.queue b'.queue b.held b'.held [] [] (filter_rows b.net at.a x keeps) s leaves (filter_plain b.net at.a x keeps l queue old h' did) net
+          (subst (λ (n : Net). Agrees n new) (sym net) (agrees_same after h' new same there)) short ring;
+      pumped_is = record { next = p.next; agrees = agrees_same _ h' new same p.agrees };
     }

@@ -20,7 +20,7 @@ pub record Goes (seats : List (ℕ × ℕ)) (old new : BookView) (more : List Ro
   pub rows : new.rows ≡ old.rows ++ more
   pub room : old.room ≤ new.room + length more
   pub bytes : old.byte_room ≤ new.byte_room + sum_by row_bytes more
-  pub did : Did seats old new old.net more
+  pub did : Did seats old.held new.held old.net more
 
 abbrev pub asked_turn : Asked → Reply → List Row → Turn
 asked_turn asked answer rows = record { who = asked.who; event = asked.event; reply = answer; rows = rows }
@@ -32,4 +32,4 @@ pub record AddsTurn (old new : BookView) (asked : Asked) (answer : Reply) : Type
   pub turns : new.turns ≡ old.turns ++ asked_turn asked answer rows ∷ []
   pub head : new.head ≡ old.head
   pub idle : new.rows ≡ []
-  pub did : Did old.seats old new (told (seen old.head old.turns) asked.event answer) rows
+  pub did : Did old.held.seats old.held new.held (told (seen old.head old.turns) asked.event answer) rows
