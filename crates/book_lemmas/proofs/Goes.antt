@@ -58,7 +58,7 @@ pub goes_none : (seats : List (ℕ × ℕ)) (b : BookView) → Goes seats b b []
 goes_none seats b = record {
   head = refl;
   turns = refl;
-  begun = refl;
+  told_by = refl;
   net = refl;
   rows = sym (append-nil b.rows);
   room = omega arith;
@@ -70,7 +70,7 @@ pub goes_then : (seats : List (ℕ × ℕ)) (a b c : BookView) (xs ys : List Row
 goes_then seats a b c xs ys g k = record {
   head = k.head ∙ g.head;
   turns = k.turns ∙ g.turns;
-  begun = k.begun ∙ g.begun;
+  told_by = k.told_by ∙ g.told_by;
   net = k.net ∙ ap (λ n. after_rows n ys) g.net ∙ sym (after_rows-append a.net xs ys);
   rows = k.rows ∙ ap (λ rows. rows ++ ys) g.rows ∙ append_assoc a.rows xs ys;
   room = omega (arith, g.room, k.room, length-append xs ys);

@@ -11,6 +11,8 @@ use Rattle.ndis_base.specs.declared.ModuleId.TheVariants.{Miniport, Filter, Bind
 use Rattle.journal_types.specs.declared.PortSetup.{PortSetup}
 use Rattle.journal_types.specs.declared.Setup.{Setup}
 use Rattle.journal_types.specs.declared.StackHead.{StackHead}
+use Rattle.journal_types.specs.declared.Event.{Event}
+use Rattle.journal_types.specs.declared.Reply.{Reply}
 use Rattle.journal_types.specs.declared.Row.{Row}
 use Rattle.journal_types.specs.declared.Turn.{Turn}
 use Rattle.buffer_pools.specs.Views.{ListView, PoolView}
@@ -30,12 +32,12 @@ pub record HeldView : Type 0 where
   pub protocol_pools : List PoolView
   pub filter_pools : List PoolView
 
--- the book: the journal and the turn under way, for how many more rows, and bytes of their frames, there is room, the
+-- the book: the journal and the turn under way, with what was told beside its rows; for how many more rows, and bytes of their frames, there is room, the
 -- queue, and what is held
 pub record BookView : Type 0 where
   pub head : StackHead
   pub turns : List Turn
-  pub begun : Net
+  pub told_by : Option (Event × Reply)
   pub net : Net
   pub rows : List Row
   pub room : ℕ
