@@ -28,9 +28,10 @@ use Rattle.hand_lemmas.proofs.Tells.{next_list}
 use Rattle.hand_lemmas.proofs.Handed.{Did, back_rows, none_rows, same_rows, held_rows, lacked_rows, cloned_rows}
 use Rattle.hand_lemmas.proofs.Handed.Did.{dropped, passed_on, held, lacked, cloned}
 use Rattle.book_lemmas.specs.Views.{BookView, hands_of}
+use Rattle.book_lemmas.specs.Between.{IsBetween}
 use Rattle.book_lemmas.specs.Leaves.{ArePlain, Leaves}
 use Rattle.book_lemmas.specs.Stands.{Stands, AreShort, IsSeated}
-use Rattle.book_lemmas.proofs.Between.{IsBetween, IsAtFilter, GoesDown, goes_down}
+use Rattle.book_lemmas.proofs.Between.{IsAtFilter, GoesDown, goes_down}
 use Rattle.book_lemmas.proofs.Between.GoesDown.{to_miniport, to_filter}
 use Rattle.book_lemmas.proofs.Pump.{IsPumped, pumped}
 use Rattle.book_lemmas.proofs.Standing.{stands_step}

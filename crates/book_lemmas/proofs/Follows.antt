@@ -1,5 +1,5 @@
 -- The state follows the journal as rows are written and as they become a turn.
-use Rattle.std.proofs.Common.{◌≡◌, List, [], ◌∷◌, ◌++◌, Option, Some, None, refl, sym, ap, ◌∙◌, subst}
+use Rattle.std.proofs.Common.{◌≡◌, ◌≤◌, length, List, [], ◌∷◌, ◌++◌, Option, Some, None, refl, sym, ap, ◌∙◌, subst}
 use Rattle.journal_types.specs.declared.Event.{Event}
 use Rattle.journal_types.specs.declared.Reply.{Reply}
 use Rattle.journal_types.specs.declared.Row.{Row}
@@ -7,6 +7,7 @@ use Rattle.journal_types.specs.declared.StackHead.{StackHead}
 use Rattle.journal_types.specs.declared.Turn.{Turn}
 use Rattle.stack_rules.specs.Net.{Net, start, seen, told, after_rows, after_turn, after_turns}
 use Rattle.stack_rules.specs.Sound.{Next, Sound, SoundFrom}
+use Rattle.book_lemmas.specs.Between.{IsBetween}
 use Rattle.book_lemmas.specs.Follows.{begun_by, Follows}
 use Rattle.book_lemmas.proofs.Goes.{after_rows-append}
 
@@ -33,3 +34,7 @@ follows_turn {head} {turns} {told_by} {net} {rows} turn f same tells next = reco
   state = f.state ∙ ap (λ n. after_rows n rows) (sym tells) ∙ ap (after_rows (told (seen head turns) turn.event turn.reply)) (sym same) ∙ sym (turns_then (start head) turns turn);
   sound = sound_then (start head) turns turn f.sound next;
 }
+
+-- a book without rows under way is between two turns
+pub between_of : {head : StackHead} {turns : List Turn} {net : Net} → 1 ≤ length head.bindings → Follows head turns None net [] → IsBetween head turns net
+between_of bound f = record { is = f.state; sound = f.sound; bound = bound }

@@ -11,6 +11,7 @@ use Rattle.journal_types.specs.declared.Row.TheVariants as row
 use Rattle.journal_types.specs.declared.StackHead.{StackHead}
 use Rattle.journal_types.specs.declared.Turn.{Turn}
 use Rattle.stack_rules.specs.Net.{Net, start, seen, told, after, after_rows, after_turn, after_turns}
+use Rattle.book_lemmas.specs.Between.{IsBetween}
 use Rattle.book_lemmas.specs.Follows.{begun_by, Follows}
 
 head_row : (net : Net) (r : Row) → (after net r).head ≡ net.head
@@ -45,3 +46,6 @@ head_begun net (Some telling) = head_told net telling.0 telling.1
 pub head_followed : {head : StackHead} {turns : List Turn} {told_by : Option (Event × Reply)} {net : Net} {rows : List Row} → Follows head turns told_by net rows → net.head ≡ head
 head_followed {head} {turns} {told_by} {net} {rows} f =
     ap (λ (n : Net). n.head) f.state ∙ head_rows (begun_by (seen head turns) told_by) rows ∙ head_begun (seen head turns) told_by ∙ head_seen head turns
+
+pub head_between : {head : StackHead} {turns : List Turn} {net : Net} → IsBetween head turns net → net.head ≡ head
+head_between {head} {turns} {net} b = ap (λ (n : Net). n.head) b.is ∙ head_seen head turns
