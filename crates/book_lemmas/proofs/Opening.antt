@@ -21,6 +21,7 @@ pub record IsOpened (net : Net) (held : HeldView) : Type 0 where
   pub empty : (m : ModuleId) → live_count (held_pool held m) ≡ 0
   pub pools : (m : ModuleId) → IsThere net m → IsPoolOf net m (held_pool held m)
   pub protocols : length held.protocols ≡ length net.head.bindings
+  pub protocol_pools : length held.protocol_pools ≡ length net.head.bindings
   pub resting : (place : ℕ) → IsResting (filter_at held.filters (Some place))
   pub port : held.miniport.port ≡ None
   pub closed : All IsClosed held.protocols
@@ -48,7 +49,9 @@ stands_start head held o =
       };
       ring = omega (arith, ap length (o.kept Miniport));
       protocols = o.protocols;
+      protocol_pools = o.protocol_pools;
       seated = λ f a there. absurd (none_attached f a (start head).modules.filters refl there);
+      places = λ f place e. absurd (none_seated held.seats f place o.seats e);
       apart = λ f g place e k. absurd (none_seated held.seats f place o.seats e);
       resting = λ place none. o.resting place;
       drivers = (o.port, o.closed);

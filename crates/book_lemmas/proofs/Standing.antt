@@ -18,7 +18,7 @@ use Rattle.stack_rules.specs.Net.{Net, Modules, after, after_rows, attached}
 use Rattle.stack_rules.specs.Places.{pool_of, pool_in}
 use Rattle.state_laws.specs.Laws.{IsThere}
 use Rattle.hand_lemmas.specs.Hands.{Agrees, Carried}
-use Rattle.book_lemmas.specs.Views.{filter_at, HeldView, IsVacant, no_protocol, seat_of, hands_of}
+use Rattle.book_lemmas.specs.Views.{filter_at, HeldView, IsVacant, IsPlace, no_protocol, seat_of, hands_of}
 use Rattle.driver_views.specs.States.{ProtocolState}
 use Rattle.book_lemmas.specs.Leaves.{ArePlain, IsCalm, Leaves}
 use Rattle.book_lemmas.specs.Stands.{Stands, AreShort, IsSeated, IsClosed, DriversFit, IsResting}
@@ -77,6 +77,11 @@ resting_still held held' l rest place none =
     let before : IsVacant held.seats place = λ f e. none f (ap (λ seats. seat_of seats f) l.seats ∙ e) in
     subst IsResting (sym (l.resting place before)) (rest place before)
 
+pub places_still : (held held' : HeldView) → Leaves held held' → ((f place : ℕ) → seat_of held.seats f ≡ Some place → IsPlace held place) → (f place : ℕ) → seat_of held'.seats f ≡ Some place → IsPlace held' place
+places_still held held' l places f place seat =
+    let p : IsPlace held place = places f place (ap (λ seats. seat_of seats f) (sym l.seats) ∙ seat) in
+    record { driver = subst (λ n. place < n) (sym l.drivers) p.driver; pool = subst (λ n. place < n) (sym l.filter_pools) p.pool }
+
 seated_still : (held held' : HeldView) → Leaves held held' → (a : Attached) → IsSeated held a → IsSeated held' a
 seated_still held held' l a s = record {
   place = s.place;
@@ -95,7 +100,9 @@ stands_step net now queue queue' held held' loose loose' rows s l plain is agree
       short = short;
       ring = subst (λ (h : StackHead). length held'.miniport.kept ≤ h.port.ring) (sym c.head) ring;
       protocols = l.protocols ∙ s.protocols ∙ ap (λ (h : StackHead). length h.bindings) (sym c.head);
+      protocol_pools = l.protocol_pools ∙ s.protocol_pools ∙ ap (λ (h : StackHead). length h.bindings) (sym c.head);
       seated = λ f a there. seated_still held held' l a (s.seated f a (ap (λ (ms : Modules). attached f ms.filters) (sym c.modules) ∙ there));
+      places = places_still held held' l s.places;
       apart = λ f g place e k. s.apart f g place (ap (λ seats. seat_of seats f) (sym l.seats) ∙ e) (ap (λ seats. seat_of seats g) (sym l.seats) ∙ k);
       resting = resting_still held held' l s.resting;
       drivers = subst (λ (n : StackHead). DriversFit n.port held' now.phase) (sym c.head) (subst (DriversFit net.head.port held') (sym c.phase) (fit_still held held' net.head.port l net.phase s.drivers));

@@ -31,10 +31,13 @@ pub record Leaves (old new : HeldView) : Type 0 where
   pub shelf : new.shelf ≡ old.shelf
   pub port : new.miniport.port ≡ old.miniport.port
   pub protocols : length new.protocols ≡ length old.protocols
+  pub drivers : length new.filters ≡ length old.filters
   pub opened : (i : ℕ) → (slice_index_or new.protocols i no_protocol).is_open ≡ (slice_index_or old.protocols i no_protocol).is_open
   pub kinds : (place : ℕ) → (filter_at new.filters (Some place)).kind ≡ (filter_at old.filters (Some place)).kind
   pub setups : (place : ℕ) → (filter_at new.filters (Some place)).setup ≡ (filter_at old.filters (Some place)).setup
   pub resting : (place : ℕ) → IsVacant old.seats place → filter_at new.filters (Some place) ≡ filter_at old.filters (Some place)
+  pub protocol_pools : length new.protocol_pools ≡ length old.protocol_pools
+  pub filter_pools : length new.filter_pools ≡ length old.filter_pools
   pub sizes : (m : ModuleId) → (held_pool new m).size ≡ (held_pool old m).size
   pub bytes : (m : ModuleId) → (held_pool new m).bytes ≡ (held_pool old m).bytes
 

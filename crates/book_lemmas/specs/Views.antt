@@ -1,6 +1,6 @@
 -- What contracts see of drivers of every kind, and of a book that holds them: boxes stay at the places where the
 -- caller's order puts them; shelf and seats hold places.
-use Rattle.std.specs.Prelude.{ℕ, ◌≡◌, ◌==◌, Bool, false, List, [], ◌∷◌, Option, Some, None, if◌then◌else◌, slice_index_or}
+use Rattle.std.specs.Prelude.{ℕ, ◌≡◌, ◌<◌, ◌==◌, Bool, false, List, [], ◌∷◌, Option, Some, None, if◌then◌else◌, length, slice_index_or}
 use Rattle.ndis_base.specs.declared.FilterKind.{FilterKind}
 use Rattle.ndis_base.specs.declared.MiniportKind.{MiniportKind}
 use Rattle.ndis_base.specs.declared.ProtocolKind.{ProtocolKind}
@@ -69,6 +69,11 @@ seat_of (s ∷ ss) f = if s.0 == f then Some s.1 else seat_of ss f
 -- no filter sits at this place
 abbrev pub IsVacant : List (ℕ × ℕ) → ℕ → Type 0
 IsVacant seats place = (f : ℕ) → seat_of seats f ≡ Some place → ⊥
+
+-- there is a driver at this place, and a pool
+pub record IsPlace (held : HeldView) (place : ℕ) : Type 0 where
+  pub driver : place < length held.filters
+  pub pool : place < length held.filter_pools
 
 -- the driver at a place
 abbrev pub filter_at : List FilterState → Option ℕ → FilterState
