@@ -1,6 +1,6 @@
 -- A book in which a pump gave the first list on its way to a filter stands again: the event at the level of the book,
 -- for everything that a filter may do.
-use Rattle.std.proofs.Common.{◌≡◌, ℕ, ◌≤◌, Bool, List, [], ◌∷◌, Some, length, refl, sym, subst}
+use Rattle.std.proofs.Common.{◌≡◌, ℕ, ◌≤◌, Bool, true, List, [], ◌∷◌, Some, length, refl, sym, subst}
 use Rattle.ndis_base.specs.declared.Direction.{Direction}
 use Rattle.ndis_base.specs.declared.Direction.TheVariants as direction
 use Rattle.ndis_base.specs.declared.ListNo.{ListNo}
@@ -9,6 +9,8 @@ use Rattle.ndis_base.specs.declared.ListStatus.TheVariants.{Dropped, Resources}
 use Rattle.ndis_base.specs.declared.ModuleId.{ModuleId}
 use Rattle.ndis_base.specs.declared.ModuleId.TheVariants.{Miniport, Filter, Binding}
 use Rattle.ndis_base.specs.declared.Who.{Who}
+use Rattle.journal_types.specs.declared.StackHead.{StackHead}
+use Rattle.journal_types.specs.declared.Turn.{Turn}
 use Rattle.journal_types.specs.declared.PassWay.TheVariants as way
 use Rattle.journal_types.specs.declared.Target.{Target}
 use Rattle.journal_types.specs.declared.Target.TheVariants.{Module, Bindings}
@@ -17,6 +19,7 @@ use Rattle.stack_rules.specs.declared.Attached.{Attached}
 use Rattle.stack_rules.specs.declared.LiveList.{LiveList}
 use Rattle.stack_rules.specs.declared.Stand.TheVariants as stand
 use Rattle.stack_rules.specs.declared.Thing.TheVariants as thing
+use Rattle.stack_rules.specs.Tests.{is_down}
 use Rattle.stack_rules.specs.Net.{Net, Modules, after_rows}
 use Rattle.stack_rules.specs.Places.{agenda_first, position}
 use Rattle.stack_rules.specs.Handled.{filter_rows}
@@ -27,7 +30,7 @@ use Rattle.hand_lemmas.proofs.Rows.{agrees_same}
 use Rattle.hand_lemmas.proofs.Tells.{next_list}
 use Rattle.hand_lemmas.proofs.Handed.{Did, back_rows, none_rows, same_rows, held_rows, lacked_rows, cloned_rows}
 use Rattle.hand_lemmas.proofs.Handed.Did.{dropped, passed_on, held, lacked, cloned}
-use Rattle.book_lemmas.specs.Views.{BookView, hands_of}
+use Rattle.book_lemmas.specs.Views.{BookView, HeldView, hands_of}
 use Rattle.book_lemmas.specs.Between.{IsBetween}
 use Rattle.book_lemmas.specs.Leaves.{ArePlain, Leaves}
 use Rattle.book_lemmas.specs.Stands.{Stands, AreShort, IsSeated}
@@ -64,21 +67,23 @@ pub record IsGiven (b b' : BookView) (a : Attached) (x : LiveList) (keeps : Bool
   pub stands : Stands b'.net b'.queue b'.held []
   pub pumped_is : IsPumped b.head b.turns b.net a x keeps who (hands_of b'.queue b'.held [])
 
--- the filter is attached, and sits at a place
-pub record HasFilter (b : BookView) (x : LiveList) (f : ℕ) : Type 0 where
-  pub at : IsAtFilter b.net f
-  pub seated : IsSeated b.held at.a
+-- a list on its way down goes to a filter, which is attached and sits at a place
+pub record HasFilter (net : Net) (held : HeldView) (x : LiveList) (f : ℕ) : Type 0 where
+  pub down : is_down x.direction ≡ true
+  pub at : IsAtFilter net f
+  pub seated : IsSeated held at.a
 
-at_filter_of : (net : Net) (x : LiveList) (to : Target) (f : ℕ) → to ≡ Module (Filter f) → GoesDown net x to → IsAtFilter net f
-at_filter_of net x (Module Miniport) f e (to_miniport down) = cc
-at_filter_of net x (Module (Filter g)) f e (to_filter g' down at) = let same : g ≡ f = cc in subst (IsAtFilter net) same at
-at_filter_of net x (Module (Binding b)) f e g = elim g [ ]
-at_filter_of net x Bindings f e g = elim g [ ]
+goes_to_filter : (net : Net) (x : LiveList) (to : Target) (f : ℕ) → to ≡ Module (Filter f) → GoesDown net x to → (is_down x.direction ≡ true) × IsAtFilter net f
+goes_to_filter net x (Module Miniport) f e (to_miniport down) = cc
+goes_to_filter net x (Module (Filter g)) f e (to_filter g' down at) = let same : g ≡ f = cc in (down, subst (IsAtFilter net) same at)
+goes_to_filter net x (Module (Binding b)) f e g = elim g [ ]
+goes_to_filter net x Bindings f e g = elim g [ ]
 
-pub has_filter : {b : BookView} → Stands b.net b.queue b.held [] → IsBetween b.head b.turns b.net → (x : LiveList) (f : ℕ) → agenda_first b.net ≡ Some (thing.List x) → x.stand ≡ stand.Passed way.Down (Module (Filter f)) → HasFilter b x f
-has_filter {b} s between x f first stands =
-    let at : IsAtFilter b.net f = at_filter_of b.net x (Module (Filter f)) f refl (goes_down between x (Module (Filter f)) first stands) in
-    record { at = at; seated = s.seated f at.a at.there }
+pub has_filter : {head : StackHead} {turns : List Turn} {net : Net} {queue : List Carried} {held : HeldView} → Stands net queue held [] → IsBetween head turns net → (x : LiveList) (f : ℕ) → agenda_first net ≡ Some (thing.List x)
+    → x.stand ≡ stand.Passed way.Down (Module (Filter f)) → HasFilter net held x f
+has_filter {head} {turns} {net} s between x f first stands =
+    let goes = goes_to_filter net x (Module (Filter f)) f refl (goes_down between x (Module (Filter f)) first stands) in
+    record { down = goes.0; at = goes.1; seated = s.seated f goes.1.a goes.1.there }
 
 pub given_to_filter : {b b' : BookView} (s : Stands b.net b.queue b.held []) (between : IsBetween b.head b.turns b.net) (who : Who) (l : ListView) (queue : List Carried) (e : b.queue ≡ a_list l ∷ queue) (f : ℕ)
     → (next_list b.net (hands_of b.queue b.held []) l queue s.agrees e).x.stand ≡ stand.Passed way.Down (Module (Filter f)) → (at : IsAtFilter b.net f) (keeps : Bool) (h' : Hands)
