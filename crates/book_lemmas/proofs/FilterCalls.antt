@@ -33,7 +33,7 @@ use Rattle.hand_lemmas.proofs.Handed.Did.{dropped, passed_on, held, lacked, clon
 use Rattle.book_lemmas.specs.Views.{BookView, HeldView, hands_of}
 use Rattle.book_lemmas.specs.Between.{IsBetween}
 use Rattle.book_lemmas.specs.Leaves.{ArePlain, Leaves}
-use Rattle.book_lemmas.specs.Stands.{Stands, AreShort, IsSeated}
+use Rattle.book_lemmas.specs.Stands.{Stands, AllSized, IsSeated}
 use Rattle.book_lemmas.proofs.Between.{IsAtFilter, GoesDown, goes_down}
 use Rattle.book_lemmas.proofs.Between.GoesDown.{to_miniport, to_filter}
 use Rattle.book_lemmas.proofs.Pump.{IsPumped, pumped}
@@ -88,10 +88,10 @@ has_filter {head} {turns} {net} s between x f first stands =
 pub given_to_filter : {b b' : BookView} (s : Stands b.net b.queue b.held []) (between : IsBetween b.head b.turns b.net) (who : Who) (l : ListView) (queue : List Carried) (e : b.queue ≡ a_list l ∷ queue) (f : ℕ)
     → (next_list b.net (hands_of b.queue b.held []) l queue s.agrees e).x.stand ≡ stand.Passed way.Down (Module (Filter f)) → (at : IsAtFilter b.net f) (keeps : Bool) (h' : Hands)
     → Did b.net at.a (next_list b.net (hands_of b.queue b.held []) l queue s.agrees e).x keeps l queue (hands_of b.queue b.held []) h'
-    → IsSame h' (hands_of b'.queue b'.held []) → Leaves b.held b'.held → AreShort b'.queue b'.held [] → length b'.held.miniport.kept ≤ b.net.head.port.ring
+    → IsSame h' (hands_of b'.queue b'.held []) → Leaves b.held b'.held → AllSized b'.queue b'.held [] → length b'.held.miniport.kept ≤ b.net.head.port.ring
     → b'.net ≡ after_rows b.net (filter_rows b.net at.a (next_list b.net (hands_of b.queue b.held []) l queue s.agrees e).x keeps)
     → IsGiven b b' at.a (next_list b.net (hands_of b.queue b.held []) l queue s.agrees e).x keeps who
-given_to_filter {b} {b'} s between who l queue e f stands at keeps h' did same leaves short ring net =
+given_to_filter {b} {b'} s between who l queue e f stands at keeps h' did same leaves sized ring net =
     let old : Hands = hands_of b.queue b.held [] in
     let new : Hands = hands_of b'.queue b'.held [] in
     let x : LiveList = (next_list b.net old l queue s.agrees e).x in
@@ -100,6 +100,6 @@ given_to_filter {b} {b'} s between who l queue e f stands at keeps h' did same l
     let there : Agrees after h' = subst (λ (n : Net). Agrees (after_rows n (filter_rows b.net at.a x keeps)) h') (sym between.is) p.agrees in
     record {
       stands = stands_step b.net b'.net b.queue b'.queue b.held b'.held [] [] (filter_rows b.net at.a x keeps) s leaves (filter_plain b.net at.a x keeps l queue old h' did) net
-          (subst (λ (n : Net). Agrees n new) (sym net) (agrees_same after h' new same there)) short ring;
+          (subst (λ (n : Net). Agrees n new) (sym net) (agrees_same after h' new same there)) sized ring;
       pumped_is = record { next = p.next; agrees = agrees_same _ h' new same p.agrees };
     }

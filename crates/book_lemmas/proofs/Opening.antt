@@ -12,7 +12,7 @@ use Rattle.state_laws.specs.Laws.{IsThere}
 use Rattle.hand_lemmas.specs.Hands.{Hands}
 use Rattle.hand_lemmas.proofs.Rows.{agrees_start, agrees_same}
 use Rattle.book_lemmas.specs.Views.{HeldView, filter_at, seat_of, kept_of, held_pool, hands_of}
-use Rattle.book_lemmas.specs.Stands.{Stands, IsPoolOf, IsShort, IsCarriedShort, IsResting, IsClosed}
+use Rattle.book_lemmas.specs.Stands.{Stands, IsPoolOf, IsSized, IsCarriedSized, IsResting, IsClosed}
 
 -- what is held as a book is opened: nothing is kept, no filter is attached, and no driver is set up
 pub record IsOpened (net : Net) (held : HeldView) : Type 0 where
@@ -42,10 +42,10 @@ stands_start head held o =
       agrees = agrees_same (start head) none (hands_of [] held []) (record { queue = refl; loose = refl; kept = λ m. sym (o.kept m); pools = λ m. refl })
           (agrees_start (start head) (held_pool held) refl o.empty (numbered_start head));
       pools = o.pools;
-      short = record {
-        carried = All-nil IsCarriedShort;
-        loose_short = All-nil IsShort;
-        kept = λ m. subst (All IsShort) (sym (o.kept m)) (All-nil IsShort);
+      sized = record {
+        carried = All-nil IsCarriedSized;
+        loose_sized = All-nil IsSized;
+        kept = λ m. subst (All IsSized) (sym (o.kept m)) (All-nil IsSized);
       };
       ring = omega (arith, ap length (o.kept Miniport));
       protocols = o.protocols;

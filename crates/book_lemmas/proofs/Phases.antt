@@ -22,7 +22,7 @@ use Rattle.hand_lemmas.proofs.Rows.{phased}
 use Rattle.book_lemmas.specs.Views.{HeldView, hands_of, seat_of}
 use Rattle.book_lemmas.specs.Leaves.{ArePhases, IsStaying, IsPhaseOnly, WasAttached, IsSeatedStill, Leaves}
 use Rattle.book_lemmas.proofs.Standing.{places_still, resting_still}
-use Rattle.book_lemmas.specs.Stands.{Stands, AreShort, IsSeated, DriversFit}
+use Rattle.book_lemmas.specs.Stands.{Stands, AllSized, IsSeated, DriversFit}
 
 -- a filter takes another state
 state_number : (g : ℕ) (s : ModuleState) (a : Attached) → (with_state g s a).filter ≡ a.filter
@@ -177,13 +177,13 @@ seated_still net held held' l a f w seated =
 
 -- A book stands again after rows of phases that leave its hands, where its drivers fit the new phase.
 pub stands_phases : (net now : Net) (queue queue' : List Carried) (held held' : HeldView) (rows : List Row) → Stands net queue held [] → Leaves held held' → ArePhases rows → now ≡ after_rows net rows
-    → Agrees (after_rows net rows) (hands_of queue' held' []) → AreShort queue' held' [] → length held'.miniport.kept ≤ net.head.port.ring → DriversFit net.head.port held' now.phase → Stands now queue' held' []
-stands_phases net now queue queue' held held' rows s l phases is agrees short ring drivers =
+    → Agrees (after_rows net rows) (hands_of queue' held' []) → AllSized queue' held' [] → length held'.miniport.kept ≤ net.head.port.ring → DriversFit net.head.port held' now.phase → Stands now queue' held' []
+stands_phases net now queue queue' held held' rows s l phases is agrees sized ring drivers =
     let c : IsSeatedStill net now = subst (IsSeatedStill net) (sym is) (still_phases net rows phases) in
     record {
       agrees = subst (λ (n : Net). Agrees n (hands_of queue' held' [])) (sym is) agrees;
       pools = λ m there. let p = s.pools m (there_was net now c m there) in record { size = l.sizes m ∙ p.size ∙ sym (pool_same net now c m); bytes = l.bytes m ∙ p.bytes };
-      short = short;
+      sized = sized;
       ring = subst (λ (h : StackHead). length held'.miniport.kept ≤ h.port.ring) (sym c.head) ring;
       protocols = l.protocols ∙ s.protocols ∙ ap (λ (h : StackHead). length h.bindings) (sym c.head);
       protocol_pools = l.protocol_pools ∙ s.protocol_pools ∙ ap (λ (h : StackHead). length h.bindings) (sym c.head);

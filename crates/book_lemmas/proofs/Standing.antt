@@ -21,7 +21,7 @@ use Rattle.hand_lemmas.specs.Hands.{Agrees, Carried}
 use Rattle.book_lemmas.specs.Views.{filter_at, HeldView, IsVacant, IsPlace, no_protocol, seat_of, hands_of}
 use Rattle.driver_views.specs.States.{ProtocolState}
 use Rattle.book_lemmas.specs.Leaves.{ArePlain, IsCalm, Leaves}
-use Rattle.book_lemmas.specs.Stands.{Stands, AreShort, IsSeated, IsClosed, DriversFit, IsResting}
+use Rattle.book_lemmas.specs.Stands.{Stands, AllSized, IsSeated, IsClosed, DriversFit, IsResting}
 
 calm_then : {net next now : Net} → IsCalm net next → IsCalm next now → IsCalm net now
 calm_then c d = record { head = d.head ∙ c.head; modules = d.modules ∙ c.modules; phase = d.phase ∙ c.phase }
@@ -91,13 +91,13 @@ seated_still held held' l a s = record {
 }
 
 pub stands_step : (net now : Net) (queue queue' : List Carried) (held held' : HeldView) (loose loose' : List ListView) (rows : List Row) → Stands net queue held loose → Leaves held held' → ArePlain rows
-    → now ≡ after_rows net rows → Agrees now (hands_of queue' held' loose') → AreShort queue' held' loose' → length held'.miniport.kept ≤ net.head.port.ring → Stands now queue' held' loose'
-stands_step net now queue queue' held held' loose loose' rows s l plain is agrees short ring =
+    → now ≡ after_rows net rows → Agrees now (hands_of queue' held' loose') → AllSized queue' held' loose' → length held'.miniport.kept ≤ net.head.port.ring → Stands now queue' held' loose'
+stands_step net now queue queue' held held' loose loose' rows s l plain is agrees sized ring =
     let c : IsCalm net now = subst (IsCalm net) (sym is) (plain_calm net rows plain) in
     record {
       agrees = agrees;
       pools = λ m there. let p = s.pools m (there_was net now c m there) in record { size = l.sizes m ∙ p.size ∙ sym (pool_same net now c m); bytes = l.bytes m ∙ p.bytes };
-      short = short;
+      sized = sized;
       ring = subst (λ (h : StackHead). length held'.miniport.kept ≤ h.port.ring) (sym c.head) ring;
       protocols = l.protocols ∙ s.protocols ∙ ap (λ (h : StackHead). length h.bindings) (sym c.head);
       protocol_pools = l.protocol_pools ∙ s.protocol_pools ∙ ap (λ (h : StackHead). length h.bindings) (sym c.head);

@@ -5,12 +5,13 @@ use Rattle.journal_types.specs.declared.PortSetup.{PortSetup}
 use Rattle.journal_types.specs.declared.Turn.{Turn}
 use Rattle.ndis_base.specs.declared.Phase.{Phase}
 use Rattle.ndis_base.specs.declared.Phase.TheVariants as phase
-use Rattle.buffer_pools.specs.Views.{ListView, PoolView, Fits}
+use Rattle.buffer_pools.specs.Views.{ListView, PoolView}
 use Rattle.stack_rules.specs.declared.Attached.{Attached}
 use Rattle.stack_rules.specs.Net.{Net, attached}
 use Rattle.stack_rules.specs.Places.{pool_of}
 use Rattle.state_laws.specs.Laws.{IsThere}
 use Rattle.promise_rules.specs.Drivers.{shelf_of, driver_of}
+use Rattle.hand_lemmas.specs.Frames.{AreSized}
 use Rattle.hand_lemmas.specs.Hands.{Carried, Agrees}
 use Rattle.agenda_items.specs.declared.Carried.TheVariants.{List as a_list, Status as a_status, Answer as an_answer}
 use Rattle.book_lemmas.specs.Views.{HeldView, filter_at, seat_of, IsVacant, IsPlace, held_pool, kept_of, hands_of}
@@ -21,20 +22,21 @@ pub record IsPoolOf (net : Net) (m : ModuleId) (p : PoolView) : Type 0 where
   pub size : p.size ≡ pool_of net m
   pub bytes : p.bytes ≡ 1518
 
--- 1 to 8 frames, none of them longer than 1518 bytes
-abbrev pub IsShort : ListView → Type 0
-IsShort l = Fits l.frames 1518
+-- the list has 1 to 8 frames, each of 14 to 1518 bytes
+abbrev pub IsSized : ListView → Type 0
+IsSized l = AreSized l.frames
 
-abbrev pub IsCarriedShort : Carried → Type 0
-IsCarriedShort (a_list l) = IsShort l
-IsCarriedShort (a_status s) = Unit {0}
-IsCarriedShort (an_answer a) = Unit {0}
+-- so has a list that is on its way; statuses and answers have no frames
+abbrev pub IsCarriedSized : Carried → Type 0
+IsCarriedSized (a_list l) = IsSized l
+IsCarriedSized (a_status s) = Unit {0}
+IsCarriedSized (an_answer a) = Unit {0}
 
--- all lists in hand are short
-pub record AreShort (queue : List Carried) (held : HeldView) (loose : List ListView) : Type 0 where
-  pub carried : All IsCarriedShort queue
-  pub loose_short : All IsShort loose
-  pub kept : (m : ModuleId) → All IsShort (kept_of held m)
+-- so have all lists in hand
+pub record AllSized (queue : List Carried) (held : HeldView) (loose : List ListView) : Type 0 where
+  pub carried : All IsCarriedSized queue
+  pub loose_sized : All IsSized loose
+  pub kept : (m : ModuleId) → All IsSized (kept_of held m)
 
 -- a filter that is attached sits at a place, where a driver of its kind stands, attached with its setup
 pub record IsSeated (held : HeldView) (a : Attached) : Type 0 where
@@ -65,7 +67,7 @@ DriversFit port held _ = held.miniport.port ≡ Some port
 pub record Stands (net : Net) (queue : List Carried) (held : HeldView) (loose : List ListView) : Type 0 where
   pub agrees : Agrees net (hands_of queue held loose)
   pub pools : (m : ModuleId) → IsThere net m → IsPoolOf net m (held_pool held m)
-  pub short : AreShort queue held loose
+  pub sized : AllSized queue held loose
   pub ring : length held.miniport.kept ≤ net.head.port.ring
   pub protocols : length held.protocols ≡ length net.head.bindings
   pub protocol_pools : length held.protocol_pools ≡ length net.head.bindings
