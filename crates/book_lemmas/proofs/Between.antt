@@ -19,7 +19,7 @@ use Rattle.stack_rules.specs.Tests.{is_down}
 use Rattle.stack_rules.specs.Net.{Net, seen, attached}
 use Rattle.stack_rules.specs.Places.{agenda_first, is_away}
 use Rattle.stack_rules.specs.Rewires.{is_in}
-use Rattle.stack_rules.specs.Sound.{Sound}
+use Rattle.book_lemmas.specs.Between.{IsBetween}
 use Rattle.ndis_base.specs.declared.Phase.{Phase}
 use Rattle.ndis_base.specs.declared.ModuleState.{ModuleState}
 use Rattle.ndis_base.specs.declared.ModuleState.TheVariants as state
@@ -30,12 +30,6 @@ use Rattle.place_laws.specs.Listed.{IsListed}
 use Rattle.place_laws.proofs.Turns.{lists_stand}
 use Rattle.pause_laws.proofs.Works.{each_away}
 use Rattle.work_laws.proofs.Halted.{HasNothing, nothing_while_halted}
-
--- between turns of a stack that has a binding
-pub record IsBetween (head : StackHead) (turns : List Turn) (net : Net) : Type 0 where
-  pub is : net ≡ seen head turns
-  pub sound : Sound head turns
-  pub bound : 1 ≤ length head.bindings
 
 nothing_first : (net : Net) (t : Thing) → net.things ≡ [] → agenda_first net ≡ Some t → ⊥
 nothing_first net t none some = clash (find is_away net.things) t (ap (find is_away) none) some

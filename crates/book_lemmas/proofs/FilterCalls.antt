@@ -1,6 +1,6 @@
 -- A book in which a pump gave the first list on its way to a filter stands again: the event at the level of the book,
 -- for everything that a filter may do.
-use Rattle.std.proofs.Common.{◌≡◌, ℕ, ◌≤◌, Bool, List, [], ◌∷◌, Some, length, refl, sym, subst}
+use Rattle.std.proofs.Common.{◌≡◌, ℕ, ◌≤◌, Bool, true, List, [], ◌∷◌, Some, length, refl, sym, subst}
 use Rattle.ndis_base.specs.declared.Direction.{Direction}
 use Rattle.ndis_base.specs.declared.Direction.TheVariants as direction
 use Rattle.ndis_base.specs.declared.ListNo.{ListNo}
@@ -9,6 +9,8 @@ use Rattle.ndis_base.specs.declared.ListStatus.TheVariants.{Dropped, Resources}
 use Rattle.ndis_base.specs.declared.ModuleId.{ModuleId}
 use Rattle.ndis_base.specs.declared.ModuleId.TheVariants.{Miniport, Filter, Binding}
 use Rattle.ndis_base.specs.declared.Who.{Who}
+use Rattle.journal_types.specs.declared.StackHead.{StackHead}
+use Rattle.journal_types.specs.declared.Turn.{Turn}
 use Rattle.journal_types.specs.declared.PassWay.TheVariants as way
 use Rattle.journal_types.specs.declared.Target.{Target}
 use Rattle.journal_types.specs.declared.Target.TheVariants.{Module, Bindings}
@@ -17,6 +19,7 @@ use Rattle.stack_rules.specs.declared.Attached.{Attached}
 use Rattle.stack_rules.specs.declared.LiveList.{LiveList}
 use Rattle.stack_rules.specs.declared.Stand.TheVariants as stand
 use Rattle.stack_rules.specs.declared.Thing.TheVariants as thing
+use Rattle.stack_rules.specs.Tests.{is_down}
 use Rattle.stack_rules.specs.Net.{Net, Modules, after_rows}
 use Rattle.stack_rules.specs.Places.{agenda_first, position}
 use Rattle.stack_rules.specs.Handled.{filter_rows}
@@ -27,10 +30,11 @@ use Rattle.hand_lemmas.proofs.Rows.{agrees_same}
 use Rattle.hand_lemmas.proofs.Tells.{next_list}
 use Rattle.hand_lemmas.proofs.Handed.{Did, back_rows, none_rows, same_rows, held_rows, lacked_rows, cloned_rows}
 use Rattle.hand_lemmas.proofs.Handed.Did.{dropped, passed_on, held, lacked, cloned}
-use Rattle.book_lemmas.specs.Views.{BookView, hands_of}
+use Rattle.book_lemmas.specs.Views.{BookView, HeldView, hands_of}
+use Rattle.book_lemmas.specs.Between.{IsBetween}
 use Rattle.book_lemmas.specs.Leaves.{ArePlain, Leaves}
-use Rattle.book_lemmas.specs.Stands.{Stands, AreShort, IsSeated}
-use Rattle.book_lemmas.proofs.Between.{IsBetween, IsAtFilter, GoesDown, goes_down}
+use Rattle.book_lemmas.specs.Stands.{Stands, AllSized, IsSeated}
+use Rattle.book_lemmas.proofs.Between.{IsAtFilter, GoesDown, goes_down}
 use Rattle.book_lemmas.proofs.Between.GoesDown.{to_miniport, to_filter}
 use Rattle.book_lemmas.proofs.Pump.{IsPumped, pumped}
 use Rattle.book_lemmas.proofs.Standing.{stands_step}
@@ -60,38 +64,42 @@ filter_plain net a x keeps l queue h h' (cloned frames c p made other spare clon
 
 -- The book stands again, and the turn may come next.
 pub record IsGiven (b b' : BookView) (a : Attached) (x : LiveList) (keeps : Bool) (who : Who) : Type 0 where
-  pub stands : Stands b' []
-  pub pumped_is : IsPumped b.head b.turns b.net a x keeps who (hands_of b' [])
+  pub stands : Stands b'.net b'.queue b'.held []
+  pub pumped_is : IsPumped b.head b.turns b.net a x keeps who (hands_of b'.queue b'.held [])
 
--- the filter is attached, and sits at a place
-pub record HasFilter (b : BookView) (x : LiveList) (f : ℕ) : Type 0 where
-  pub at : IsAtFilter b.net f
-  pub seated : IsSeated b at.a
+-- a list on its way down goes to a filter, which is attached and sits at a place
+pub record HasFilter (net : Net) (held : HeldView) (x : LiveList) (f : ℕ) : Type 0 where
+  pub down : is_down x.direction ≡ true
+  pub at : IsAtFilter net f
+  pub seated : IsSeated held at.a
 
-at_filter_of : (net : Net) (x : LiveList) (to : Target) (f : ℕ) → to ≡ Module (Filter f) → GoesDown net x to → IsAtFilter net f
-at_filter_of net x (Module Miniport) f e (to_miniport down) = cc
-at_filter_of net x (Module (Filter g)) f e (to_filter g' down at) = let same : g ≡ f = cc in subst (IsAtFilter net) same at
-at_filter_of net x (Module (Binding b)) f e g = elim g [ ]
-at_filter_of net x Bindings f e g = elim g [ ]
+goes_to_filter : (net : Net) (x : LiveList) (to : Target) (f : ℕ) → to ≡ Module (Filter f) → GoesDown net x to → (is_down x.direction ≡ true) × IsAtFilter net f
+goes_to_filter net x (Module Miniport) f e (to_miniport down) = cc
+goes_to_filter net x (Module (Filter g)) f e (to_filter g' down at) = let same : g ≡ f = cc in (down, subst (IsAtFilter net) same at)
+goes_to_filter net x (Module (Binding b)) f e g = elim g [ ]
+goes_to_filter net x Bindings f e g = elim g [ ]
 
-pub has_filter : {b : BookView} → Stands b [] → IsBetween b.head b.turns b.net → (x : LiveList) (f : ℕ) → agenda_first b.net ≡ Some (thing.List x) → x.stand ≡ stand.Passed way.Down (Module (Filter f)) → HasFilter b x f
-has_filter {b} s between x f first stands =
-    let at : IsAtFilter b.net f = at_filter_of b.net x (Module (Filter f)) f refl (goes_down between x (Module (Filter f)) first stands) in
-    record { at = at; seated = s.seated f at.a at.there }
+pub has_filter : {head : StackHead} {turns : List Turn} {net : Net} {queue : List Carried} {held : HeldView} → Stands net queue held [] → IsBetween head turns net → (x : LiveList) (f : ℕ) → agenda_first net ≡ Some (thing.List x)
+    → x.stand ≡ stand.Passed way.Down (Module (Filter f)) → HasFilter net held x f
+has_filter {head} {turns} {net} s between x f first stands =
+    let goes = goes_to_filter net x (Module (Filter f)) f refl (goes_down between x (Module (Filter f)) first stands) in
+    record { down = goes.0; at = goes.1; seated = s.seated f goes.1.a goes.1.there }
 
-pub given_to_filter : {b b' : BookView} (s : Stands b []) (between : IsBetween b.head b.turns b.net) (who : Who) (l : ListView) (queue : List Carried) (e : b.queue ≡ a_list l ∷ queue) (f : ℕ)
-    → (next_list b.net (hands_of b []) l queue s.agrees e).x.stand ≡ stand.Passed way.Down (Module (Filter f)) → (at : IsAtFilter b.net f) (keeps : Bool) (h' : Hands)
-    → Did b.net at.a (next_list b.net (hands_of b []) l queue s.agrees e).x keeps l queue (hands_of b []) h'
-    → IsSame h' (hands_of b' []) → Leaves b b' → AreShort b' [] → length b'.miniport.kept ≤ b.head.port.ring
-    → b'.net ≡ after_rows b.net (filter_rows b.net at.a (next_list b.net (hands_of b []) l queue s.agrees e).x keeps)
-    → IsGiven b b' at.a (next_list b.net (hands_of b []) l queue s.agrees e).x keeps who
-given_to_filter {b} {b'} s between who l queue e f stands at keeps h' did same leaves short ring net =
-    let x : LiveList = (next_list b.net (hands_of b []) l queue s.agrees e).x in
-    let p : IsPumped b.head b.turns b.net at.a x keeps who h' = pumped between who l queue (hands_of b []) h' s.agrees e f stands at keeps did in
+pub given_to_filter : {b b' : BookView} (s : Stands b.net b.queue b.held []) (between : IsBetween b.head b.turns b.net) (who : Who) (l : ListView) (queue : List Carried) (e : b.queue ≡ a_list l ∷ queue) (f : ℕ)
+    → (next_list b.net (hands_of b.queue b.held []) l queue s.agrees e).x.stand ≡ stand.Passed way.Down (Module (Filter f)) → (at : IsAtFilter b.net f) (keeps : Bool) (h' : Hands)
+    → Did b.net at.a (next_list b.net (hands_of b.queue b.held []) l queue s.agrees e).x keeps l queue (hands_of b.queue b.held []) h'
+    → IsSame h' (hands_of b'.queue b'.held []) → Leaves b.held b'.held → AllSized b'.queue b'.held [] → length b'.held.miniport.kept ≤ b.net.head.port.ring
+    → b'.net ≡ after_rows b.net (filter_rows b.net at.a (next_list b.net (hands_of b.queue b.held []) l queue s.agrees e).x keeps)
+    → IsGiven b b' at.a (next_list b.net (hands_of b.queue b.held []) l queue s.agrees e).x keeps who
+given_to_filter {b} {b'} s between who l queue e f stands at keeps h' did same leaves sized ring net =
+    let old : Hands = hands_of b.queue b.held [] in
+    let new : Hands = hands_of b'.queue b'.held [] in
+    let x : LiveList = (next_list b.net old l queue s.agrees e).x in
+    let p : IsPumped b.head b.turns b.net at.a x keeps who h' = pumped between who l queue old h' s.agrees e f stands at keeps did in
     let after : Net = after_rows b.net (filter_rows b.net at.a x keeps) in
     let there : Agrees after h' = subst (λ (n : Net). Agrees (after_rows n (filter_rows b.net at.a x keeps)) h') (sym between.is) p.agrees in
     record {
-      stands = stands_step b b' [] [] (filter_rows b.net at.a x keeps) s leaves (filter_plain b.net at.a x keeps l queue (hands_of b []) h' did) net
-          (subst (λ (n : Net). Agrees n (hands_of b' [])) (sym net) (agrees_same after h' (hands_of b' []) same there)) short ring;
-      pumped_is = record { next = p.next; agrees = agrees_same _ h' (hands_of b' []) same p.agrees };
+      stands = stands_step b.net b'.net b.queue b'.queue b.held b'.held [] [] (filter_rows b.net at.a x keeps) s leaves (filter_plain b.net at.a x keeps l queue old h' did) net
+          (subst (λ (n : Net). Agrees n new) (sym net) (agrees_same after h' new same there)) sized ring;
+      pumped_is = record { next = p.next; agrees = agrees_same _ h' new same p.agrees };
     }

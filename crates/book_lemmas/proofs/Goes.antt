@@ -8,7 +8,7 @@ use Rattle.journal_store.specs.Sizes.{row_bytes}
 use Rattle.stack_rules.specs.Net.{Net, after, after_rows}
 use Rattle.promise_rules.specs.Calls.{is_call_of, logged_at}
 use Rattle.rule_basics.proofs.Counts.{count_by-append}
-use Rattle.book_lemmas.specs.Views.{BookView}
+use Rattle.book_lemmas.specs.Views.{BookView, HeldView}
 use Rattle.driver_views.specs.States.{Record}
 use Rattle.book_lemmas.specs.Did.{calls_now, calls_in, logs_in, IsServed, Did}
 use Rattle.book_lemmas.specs.Turns.{Goes}
@@ -38,15 +38,15 @@ served_then m net xs ys a b c s t = record {
   log = t.log ∙ ap (λ log. log ++ logs_in m ys) s.log ∙ append_assoc a.log (logs_in m xs) (logs_in m ys) ∙ ap (λ more. a.log ++ more) (sym (flat_more (logged_at m) xs ys));
 }
 
-pub did_none : (seats : List (ℕ × ℕ)) (b : BookView) (net : Net) → Did seats b b net []
-did_none seats b net = record {
+pub did_none : (seats : List (ℕ × ℕ)) (held : HeldView) (net : Net) → Did seats held held net []
+did_none seats held net = record {
   miniport = served_none _ net _;
   protocols = λ i. served_none _ net _;
   filters = λ f place seat. served_none _ net _;
   shelved = λ place none. record { calls = λ what. refl; log = refl };
 }
 
-pub did_then : (seats : List (ℕ × ℕ)) (a b c : BookView) (net : Net) (xs ys : List Row) → Did seats a b net xs → Did seats b c (after_rows net xs) ys → Did seats a c net (xs ++ ys)
+pub did_then : (seats : List (ℕ × ℕ)) (a b c : HeldView) (net : Net) (xs ys : List Row) → Did seats a b net xs → Did seats b c (after_rows net xs) ys → Did seats a c net (xs ++ ys)
 did_then seats a b c net xs ys s t = record {
   miniport = served_then _ net xs ys _ _ _ s.miniport t.miniport;
   protocols = λ i. served_then _ net xs ys _ _ _ (s.protocols i) (t.protocols i);
@@ -58,22 +58,22 @@ pub goes_none : (seats : List (ℕ × ℕ)) (b : BookView) → Goes seats b b []
 goes_none seats b = record {
   head = refl;
   turns = refl;
-  begun = refl;
+  told_by = refl;
   net = refl;
   rows = sym (append-nil b.rows);
   room = omega arith;
   bytes = omega arith;
-  did = did_none seats b b.net;
+  did = did_none seats b.held b.net;
 }
 
 pub goes_then : (seats : List (ℕ × ℕ)) (a b c : BookView) (xs ys : List Row) → Goes seats a b xs → Goes seats b c ys → Goes seats a c (xs ++ ys)
 goes_then seats a b c xs ys g k = record {
   head = k.head ∙ g.head;
   turns = k.turns ∙ g.turns;
-  begun = k.begun ∙ g.begun;
+  told_by = k.told_by ∙ g.told_by;
   net = k.net ∙ ap (λ n. after_rows n ys) g.net ∙ sym (after_rows-append a.net xs ys);
   rows = k.rows ∙ ap (λ rows. rows ++ ys) g.rows ∙ append_assoc a.rows xs ys;
   room = omega (arith, g.room, k.room, length-append xs ys);
   bytes = omega (arith, g.bytes, k.bytes, sum_by-append row_bytes xs ys);
-  did = did_then seats a b c a.net xs ys g.did (subst (λ n. Did seats b c n ys) g.net k.did);
+  did = did_then seats a.held b.held c.held a.net xs ys g.did (subst (λ n. Did seats b.held c.held n ys) g.net k.did);
 }

@@ -3,29 +3,28 @@ use Rattle.std.proofs.Common.{◌≡◌, ℕ, List, [], ◌∷◌, Some, None, l
 use Rattle.std.proofs.lemmas.List.Elements.{All-nil}
 use Rattle.ndis_base.specs.declared.ModuleId.{ModuleId}
 use Rattle.ndis_base.specs.declared.ModuleId.TheVariants.{Miniport}
+use Rattle.journal_types.specs.declared.StackHead.{StackHead}
 use Rattle.buffer_pools.specs.Views.{live_count}
 use Rattle.stack_rules.specs.declared.Attached.{Attached}
 use Rattle.stack_rules.specs.Net.{Net, start, attached}
-use Rattle.rule_basics.specs.Numbers.{IsNumbered}
 use Rattle.rule_basics.proofs.Numbered.{numbered_start}
 use Rattle.state_laws.specs.Laws.{IsThere}
 use Rattle.hand_lemmas.specs.Hands.{Hands}
 use Rattle.hand_lemmas.proofs.Rows.{agrees_start, agrees_same}
-use Rattle.book_lemmas.specs.Views.{BookView, filter_at, seat_of, kept_of, pool_of_book, hands_of}
-use Rattle.book_lemmas.specs.Stands.{Stands, IsPoolOf, IsShort, IsCarriedShort, IsResting, IsClosed, DriversFit}
+use Rattle.book_lemmas.specs.Views.{HeldView, filter_at, seat_of, kept_of, held_pool, hands_of}
+use Rattle.book_lemmas.specs.Stands.{Stands, IsPoolOf, IsSized, IsCarriedSized, IsResting, IsClosed}
 
--- a book as it is opened
-pub record IsOpened (b : BookView) : Type 0 where
-  pub net : b.net ≡ start b.head
-  pub queue : b.queue ≡ []
-  pub seats : b.seats ≡ []
-  pub kept : (m : ModuleId) → kept_of b m ≡ []
-  pub empty : (m : ModuleId) → live_count (pool_of_book b m) ≡ 0
-  pub pools : (m : ModuleId) → IsThere b.net m → IsPoolOf b.net m (pool_of_book b m)
-  pub protocols : length b.protocols ≡ length b.head.bindings
-  pub resting : (place : ℕ) → IsResting (filter_at b.filters (Some place))
-  pub port : b.miniport.port ≡ None
-  pub closed : All IsClosed b.protocols
+-- what is held as a book is opened: nothing is kept, no filter is attached, and no driver is set up
+pub record IsOpened (net : Net) (held : HeldView) : Type 0 where
+  pub seats : held.seats ≡ []
+  pub kept : (m : ModuleId) → kept_of held m ≡ []
+  pub empty : (m : ModuleId) → live_count (held_pool held m) ≡ 0
+  pub pools : (m : ModuleId) → IsThere net m → IsPoolOf net m (held_pool held m)
+  pub protocols : length held.protocols ≡ length net.head.bindings
+  pub protocol_pools : length held.protocol_pools ≡ length net.head.bindings
+  pub resting : (place : ℕ) → IsResting (filter_at held.filters (Some place))
+  pub port : held.miniport.port ≡ None
+  pub closed : All IsClosed held.protocols
 
 none_attached : (f : ℕ) (a : Attached) (entries : List Attached) → entries ≡ [] → attached f entries ≡ Some a → ⊥
 none_attached f a [] e some = cc
@@ -35,22 +34,25 @@ none_seated : (seats : List (ℕ × ℕ)) (f place : ℕ) → seats ≡ [] → s
 none_seated [] f place e some = cc
 none_seated (s ∷ seats) f place e some = cc
 
-pub stands_start : (b : BookView) → IsOpened b → Stands b []
-stands_start b o =
-    let none : Hands = record { queue = []; loose = []; kept = λ m. []; pools = pool_of_book b } in
+-- with nothing on its way it stands in the state in which every journal starts
+pub stands_start : (head : StackHead) (held : HeldView) → IsOpened (start head) held → Stands (start head) [] held []
+stands_start head held o =
+    let none : Hands = record { queue = []; loose = []; kept = λ m. []; pools = held_pool held } in
     record {
-      agrees = agrees_same b.net none (hands_of b []) (record { queue = sym o.queue; loose = refl; kept = λ m. sym (o.kept m); pools = λ m. refl })
-          (agrees_start b.net (pool_of_book b) (ap (λ (n : Net). n.things) o.net) o.empty (subst IsNumbered (sym o.net) (numbered_start b.head)));
+      agrees = agrees_same (start head) none (hands_of [] held []) (record { queue = refl; loose = refl; kept = λ m. sym (o.kept m); pools = λ m. refl })
+          (agrees_start (start head) (held_pool held) refl o.empty (numbered_start head));
       pools = o.pools;
-      short = record {
-        queue = subst (All IsCarriedShort) (sym o.queue) (All-nil IsCarriedShort);
-        loose_short = All-nil IsShort;
-        kept = λ m. subst (All IsShort) (sym (o.kept m)) (All-nil IsShort);
+      sized = record {
+        carried = All-nil IsCarriedSized;
+        loose_sized = All-nil IsSized;
+        kept = λ m. subst (All IsSized) (sym (o.kept m)) (All-nil IsSized);
       };
       ring = omega (arith, ap length (o.kept Miniport));
       protocols = o.protocols;
-      seated = λ f a there. absurd (none_attached f a b.net.modules.filters (ap (λ (n : Net). n.modules.filters) o.net) there);
-      apart = λ f g place e k. absurd (none_seated b.seats f place o.seats e);
+      protocol_pools = o.protocol_pools;
+      seated = λ f a there. absurd (none_attached f a (start head).modules.filters refl there);
+      places = λ f place e. absurd (none_seated held.seats f place o.seats e);
+      apart = λ f g place e k. absurd (none_seated held.seats f place o.seats e);
       resting = λ place none. o.resting place;
-      drivers = subst (DriversFit b) (sym (ap (λ (n : Net). n.phase) o.net)) (o.port, o.closed);
+      drivers = (o.port, o.closed);
     }

@@ -17,12 +17,12 @@ use Rattle.stack_rules.specs.Net.{Net, after, after_rows, attached, with_state, 
 use Rattle.stack_rules.specs.Places.{pool_of, pool_in}
 use Rattle.stack_rules.specs.Rewires.{is_in}
 use Rattle.state_laws.specs.Laws.{IsThere}
-use Rattle.hand_lemmas.specs.Hands.{Hands, Agrees}
+use Rattle.hand_lemmas.specs.Hands.{Carried, Hands, Agrees}
 use Rattle.hand_lemmas.proofs.Rows.{phased}
-use Rattle.book_lemmas.specs.Views.{BookView, hands_of, seat_of}
+use Rattle.book_lemmas.specs.Views.{HeldView, hands_of, seat_of}
 use Rattle.book_lemmas.specs.Leaves.{ArePhases, IsStaying, IsPhaseOnly, WasAttached, IsSeatedStill, Leaves}
-use Rattle.book_lemmas.proofs.Standing.{resting_still}
-use Rattle.book_lemmas.specs.Stands.{Stands, AreShort, IsSeated, DriversFit}
+use Rattle.book_lemmas.proofs.Standing.{places_still, resting_still}
+use Rattle.book_lemmas.specs.Stands.{Stands, AllSized, IsSeated, DriversFit}
 
 -- a filter takes another state
 state_number : (g : ℕ) (s : ModuleState) (a : Attached) → (with_state g s a).filter ≡ a.filter
@@ -165,29 +165,31 @@ pool_same net now s Miniport = ap (λ (h : StackHead). h.port.pool) s.head
 pool_same net now s (Binding b) = ap (λ (h : StackHead). (slice_index_or h.bindings b (protocol_kind.Log, 0)).1) s.head
 pool_same net now s (Filter f) = s.pools f
 
-seated_still : (b b' : BookView) → Leaves b b' → (a : Attached) (f : ℕ) → WasAttached b.net a f → ((f : ℕ) (a : Attached) → attached f b.net.modules.filters ≡ Some a → IsSeated b a) → IsSeated b' a
-seated_still b b' l a f w seated =
+seated_still : (net : Net) (held held' : HeldView) → Leaves held held' → (a : Attached) (f : ℕ) → WasAttached net a f → ((f : ℕ) (a : Attached) → attached f net.modules.filters ≡ Some a → IsSeated held a) → IsSeated held' a
+seated_still net held held' l a f w seated =
     let s = seated f w.was w.there in
     record {
       place = s.place;
-      seat = ap (λ seats. seat_of seats a.filter) l.seats ∙ ap (seat_of b.seats) w.number ∙ s.seat;
+      seat = ap (λ seats. seat_of seats a.filter) l.seats ∙ ap (seat_of held.seats) w.number ∙ s.seat;
       kind = l.kinds s.place ∙ s.kind ∙ sym w.kind;
       setup = l.setups s.place ∙ s.setup ∙ ap (λ (x : Setup). Some x) (sym w.setup);
     }
 
 -- A book stands again after rows of phases that leave its hands, where its drivers fit the new phase.
-pub stands_phases : (b b' : BookView) (rows : List Row) → Stands b [] → Leaves b b' → ArePhases rows → b'.net ≡ after_rows b.net rows → Agrees (after_rows b.net rows) (hands_of b' [])
-    → AreShort b' [] → length b'.miniport.kept ≤ b.head.port.ring → DriversFit b' b'.net.phase → Stands b' []
-stands_phases b b' rows s l phases net agrees short ring drivers =
-    let c : IsSeatedStill b.net b'.net = subst (IsSeatedStill b.net) (sym net) (still_phases b.net rows phases) in
+pub stands_phases : (net now : Net) (queue queue' : List Carried) (held held' : HeldView) (rows : List Row) → Stands net queue held [] → Leaves held held' → ArePhases rows → now ≡ after_rows net rows
+    → Agrees (after_rows net rows) (hands_of queue' held' []) → AllSized queue' held' [] → length held'.miniport.kept ≤ net.head.port.ring → DriversFit net.head.port held' now.phase → Stands now queue' held' []
+stands_phases net now queue queue' held held' rows s l phases is agrees sized ring drivers =
+    let c : IsSeatedStill net now = subst (IsSeatedStill net) (sym is) (still_phases net rows phases) in
     record {
-      agrees = subst (λ (n : Net). Agrees n (hands_of b' [])) (sym net) agrees;
-      pools = λ m there. let p = s.pools m (there_was b.net b'.net c m there) in record { size = l.sizes m ∙ p.size ∙ sym (pool_same b.net b'.net c m); bytes = l.bytes m ∙ p.bytes };
-      short = short;
-      ring = subst (λ (h : StackHead). length b'.miniport.kept ≤ h.port.ring) (sym l.head) ring;
-      protocols = l.protocols ∙ s.protocols ∙ ap (λ (h : StackHead). length h.bindings) (sym l.head);
-      seated = λ f a there. seated_still b b' l a f (c.filters f a there) s.seated;
+      agrees = subst (λ (n : Net). Agrees n (hands_of queue' held' [])) (sym is) agrees;
+      pools = λ m there. let p = s.pools m (there_was net now c m there) in record { size = l.sizes m ∙ p.size ∙ sym (pool_same net now c m); bytes = l.bytes m ∙ p.bytes };
+      sized = sized;
+      ring = subst (λ (h : StackHead). length held'.miniport.kept ≤ h.port.ring) (sym c.head) ring;
+      protocols = l.protocols ∙ s.protocols ∙ ap (λ (h : StackHead). length h.bindings) (sym c.head);
+      protocol_pools = l.protocol_pools ∙ s.protocol_pools ∙ ap (λ (h : StackHead). length h.bindings) (sym c.head);
+      seated = λ f a there. seated_still net held held' l a f (c.filters f a there) s.seated;
+      places = places_still held held' l s.places;
       apart = λ f g place e k. s.apart f g place (ap (λ seats. seat_of seats f) (sym l.seats) ∙ e) (ap (λ seats. seat_of seats g) (sym l.seats) ∙ k);
-      resting = resting_still b b' l s.resting;
-      drivers = drivers;
+      resting = resting_still held held' l s.resting;
+      drivers = subst (λ (h : StackHead). DriversFit h.port held' now.phase) (sym c.head) drivers;
     }

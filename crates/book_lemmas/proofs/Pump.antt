@@ -28,7 +28,8 @@ use Rattle.hand_lemmas.specs.Hands.{Carried, Hands, Agrees, in_hand, in_state}
 use Rattle.agenda_items.specs.declared.Carried.TheVariants.{List as a_list}
 use Rattle.hand_lemmas.proofs.Tells.{IsNext, next_list}
 use Rattle.hand_lemmas.proofs.Handed.{Did, filter_did}
-use Rattle.book_lemmas.proofs.Between.{IsBetween, IsAtFilter}
+use Rattle.book_lemmas.specs.Between.{IsBetween}
+use Rattle.book_lemmas.proofs.Between.{IsAtFilter}
 
 pump_turn : Who → List Row → Turn
 pump_turn who rows = record { who = who; event = event.Pump; reply = reply.Moved; rows = rows }

@@ -13,7 +13,7 @@ use Rattle.rule_basics.specs.Live.{Each}
 use Rattle.drain_laws.specs.Resting.{IsResting, Rests}
 use Rattle.drain_laws.proofs.Rests.{lists_rest}
 use Rattle.hand_lemmas.specs.Hands.{in_hand, in_state, is_loose, loose_lists, Hands, Agrees}
-use Rattle.book_lemmas.proofs.Between.{IsBetween}
+use Rattle.book_lemmas.specs.Between.{IsBetween}
 
 rested : {head : StackHead} {turns : List Turn} {net : Net} → IsBetween head turns net → Each (IsResting net) (lists net.things)
 rested {head} {turns} {net} b = subst (λ (n : Net). Each (IsResting n) (lists n.things)) (sym b.is) (lists_rest head turns b.sound)

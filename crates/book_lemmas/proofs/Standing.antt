@@ -8,6 +8,7 @@ use Rattle.ndis_base.specs.declared.ProtocolKind.TheVariants as protocol_kind
 use Rattle.stack_rules.specs.Rewires.{is_in}
 use Rattle.ndis_base.specs.declared.Phase.{Phase}
 use Rattle.ndis_base.specs.declared.Phase.TheVariants as phase
+use Rattle.journal_types.specs.declared.PortSetup.{PortSetup}
 use Rattle.journal_types.specs.declared.StackHead.{StackHead}
 use Rattle.journal_types.specs.declared.Row.{Row}
 use Rattle.journal_types.specs.declared.Row.TheVariants as row
@@ -16,11 +17,11 @@ use Rattle.stack_rules.specs.declared.Attached.{Attached}
 use Rattle.stack_rules.specs.Net.{Net, Modules, after, after_rows, attached}
 use Rattle.stack_rules.specs.Places.{pool_of, pool_in}
 use Rattle.state_laws.specs.Laws.{IsThere}
-use Rattle.hand_lemmas.specs.Hands.{Agrees}
-use Rattle.book_lemmas.specs.Views.{filter_at, BookView, no_protocol, seat_of, hands_of}
+use Rattle.hand_lemmas.specs.Hands.{Agrees, Carried}
+use Rattle.book_lemmas.specs.Views.{filter_at, HeldView, IsVacant, IsPlace, no_protocol, seat_of, hands_of}
 use Rattle.driver_views.specs.States.{ProtocolState}
 use Rattle.book_lemmas.specs.Leaves.{ArePlain, IsCalm, Leaves}
-use Rattle.book_lemmas.specs.Stands.{Stands, AreShort, IsSeated, IsClosed, DriversFit, IsResting}
+use Rattle.book_lemmas.specs.Stands.{Stands, AllSized, IsSeated, IsClosed, DriversFit, IsResting}
 
 calm_then : {net next now : Net} → IsCalm net next → IsCalm next now → IsCalm net now
 calm_then c d = record { head = d.head ∙ c.head; modules = d.modules ∙ c.modules; phase = d.phase ∙ c.phase }
@@ -63,39 +64,46 @@ all_closed : (olds news : List ProtocolState) → length news ≡ length olds �
 all_closed olds news count same closed =
     All-from_get_or IsClosed news no_protocol (λ i within. same i ∙ closed i no_protocol (subst (λ n. i < n) count within))
 
-fit_still : (b b' : BookView) → Leaves b b' → (p : Phase) → DriversFit b p → DriversFit b' p
-fit_still b b' l phase.Halted d = (l.port ∙ d.0, all_closed b.protocols b'.protocols l.protocols l.opened d.1)
-fit_still b b' l phase.Paused d = l.port ∙ d ∙ ap (λ (h : StackHead). Some h.port) (sym l.head)
-fit_still b b' l phase.Restarting d = l.port ∙ d ∙ ap (λ (h : StackHead). Some h.port) (sym l.head)
-fit_still b b' l phase.Running d = l.port ∙ d ∙ ap (λ (h : StackHead). Some h.port) (sym l.head)
-fit_still b b' l phase.Pausing d = l.port ∙ d ∙ ap (λ (h : StackHead). Some h.port) (sym l.head)
+fit_still : (held held' : HeldView) (port : PortSetup) → Leaves held held' → (p : Phase) → DriversFit port held p → DriversFit port held' p
+fit_still held held' port l phase.Halted d = (l.port ∙ d.0, all_closed held.protocols held'.protocols l.protocols l.opened d.1)
+fit_still held held' port l phase.Paused d = l.port ∙ d
+fit_still held held' port l phase.Restarting d = l.port ∙ d
+fit_still held held' port l phase.Running d = l.port ∙ d
+fit_still held held' port l phase.Pausing d = l.port ∙ d
 
-pub resting_still : (b b' : BookView) → Leaves b b' → ((place : ℕ) → ((f : ℕ) → seat_of b.seats f ≡ Some place → ⊥) → IsResting (filter_at b.filters (Some place)))
-    → (place : ℕ) → ((f : ℕ) → seat_of b'.seats f ≡ Some place → ⊥) → IsResting (filter_at b'.filters (Some place))
-resting_still b b' l rest place none =
-    let before : (f : ℕ) → seat_of b.seats f ≡ Some place → ⊥ = λ f e. none f (ap (λ seats. seat_of seats f) l.seats ∙ e) in
+pub resting_still : (held held' : HeldView) → Leaves held held' → ((place : ℕ) → IsVacant held.seats place → IsResting (filter_at held.filters (Some place)))
+    → (place : ℕ) → IsVacant held'.seats place → IsResting (filter_at held'.filters (Some place))
+resting_still held held' l rest place none =
+    let before : IsVacant held.seats place = λ f e. none f (ap (λ seats. seat_of seats f) l.seats ∙ e) in
     subst IsResting (sym (l.resting place before)) (rest place before)
 
-seated_still : (b b' : BookView) → Leaves b b' → (a : Attached) → IsSeated b a → IsSeated b' a
-seated_still b b' l a s = record {
+pub places_still : (held held' : HeldView) → Leaves held held' → ((f place : ℕ) → seat_of held.seats f ≡ Some place → IsPlace held place) → (f place : ℕ) → seat_of held'.seats f ≡ Some place → IsPlace held' place
+places_still held held' l places f place seat =
+    let p : IsPlace held place = places f place (ap (λ seats. seat_of seats f) (sym l.seats) ∙ seat) in
+    record { driver = subst (λ n. place < n) (sym l.drivers) p.driver; pool = subst (λ n. place < n) (sym l.filter_pools) p.pool }
+
+seated_still : (held held' : HeldView) → Leaves held held' → (a : Attached) → IsSeated held a → IsSeated held' a
+seated_still held held' l a s = record {
   place = s.place;
   seat = ap (λ seats. seat_of seats a.filter) l.seats ∙ s.seat;
   kind = l.kinds s.place ∙ s.kind;
   setup = l.setups s.place ∙ s.setup;
 }
 
-pub stands_step : (b b' : BookView) (loose loose' : List ListView) (rows : List Row) → Stands b loose → Leaves b b' → ArePlain rows → b'.net ≡ after_rows b.net rows
-    → Agrees b'.net (hands_of b' loose') → AreShort b' loose' → length b'.miniport.kept ≤ b.head.port.ring → Stands b' loose'
-stands_step b b' loose loose' rows s l plain net agrees short ring =
-    let c : IsCalm b.net b'.net = subst (IsCalm b.net) (sym net) (plain_calm b.net rows plain) in
+pub stands_step : (net now : Net) (queue queue' : List Carried) (held held' : HeldView) (loose loose' : List ListView) (rows : List Row) → Stands net queue held loose → Leaves held held' → ArePlain rows
+    → now ≡ after_rows net rows → Agrees now (hands_of queue' held' loose') → AllSized queue' held' loose' → length held'.miniport.kept ≤ net.head.port.ring → Stands now queue' held' loose'
+stands_step net now queue queue' held held' loose loose' rows s l plain is agrees sized ring =
+    let c : IsCalm net now = subst (IsCalm net) (sym is) (plain_calm net rows plain) in
     record {
       agrees = agrees;
-      pools = λ m there. let p = s.pools m (there_was b.net b'.net c m there) in record { size = l.sizes m ∙ p.size ∙ sym (pool_same b.net b'.net c m); bytes = l.bytes m ∙ p.bytes };
-      short = short;
-      ring = subst (λ (h : StackHead). length b'.miniport.kept ≤ h.port.ring) (sym l.head) ring;
-      protocols = l.protocols ∙ s.protocols ∙ ap (λ (h : StackHead). length h.bindings) (sym l.head);
-      seated = λ f a there. seated_still b b' l a (s.seated f a (ap (λ (ms : Modules). attached f ms.filters) (sym c.modules) ∙ there));
+      pools = λ m there. let p = s.pools m (there_was net now c m there) in record { size = l.sizes m ∙ p.size ∙ sym (pool_same net now c m); bytes = l.bytes m ∙ p.bytes };
+      sized = sized;
+      ring = subst (λ (h : StackHead). length held'.miniport.kept ≤ h.port.ring) (sym c.head) ring;
+      protocols = l.protocols ∙ s.protocols ∙ ap (λ (h : StackHead). length h.bindings) (sym c.head);
+      protocol_pools = l.protocol_pools ∙ s.protocol_pools ∙ ap (λ (h : StackHead). length h.bindings) (sym c.head);
+      seated = λ f a there. seated_still held held' l a (s.seated f a (ap (λ (ms : Modules). attached f ms.filters) (sym c.modules) ∙ there));
+      places = places_still held held' l s.places;
       apart = λ f g place e k. s.apart f g place (ap (λ seats. seat_of seats f) (sym l.seats) ∙ e) (ap (λ seats. seat_of seats g) (sym l.seats) ∙ k);
-      resting = resting_still b b' l s.resting;
-      drivers = subst (DriversFit b') (sym c.phase) (fit_still b b' l b.net.phase s.drivers);
+      resting = resting_still held held' l s.resting;
+      drivers = subst (λ (n : StackHead). DriversFit n.port held' now.phase) (sym c.head) (subst (DriversFit net.head.port held') (sym c.phase) (fit_still held held' net.head.port l net.phase s.drivers));
     }

@@ -18,7 +18,7 @@ use Rattle.promise_rules.specs.declared.Call.{Call}
 use Rattle.promise_rules.specs.declared.Called.{Called}
 use Rattle.promise_rules.specs.declared.Called.TheVariants as called
 use Rattle.promise_rules.specs.Calls.{call, called_by, received_as, home_call, is_call_of, logged_at}
-use Rattle.book_lemmas.specs.Views.{BookView, filter_at, no_protocol, seat_of}
+use Rattle.book_lemmas.specs.Views.{HeldView, filter_at, no_protocol, seat_of, IsVacant}
 use Rattle.driver_views.specs.States.{Record, times}
 
 -- the direction of a live list
@@ -73,8 +73,8 @@ pub record IsIdle (old new : Record) : Type 0 where
   pub log : new.log ≡ old.log
 
 -- the drivers did what the rows say, and nothing else; the filters by the seats that they had as the turn began
-pub record Did (seats : List (ℕ × ℕ)) (old new : BookView) (net : Net) (rows : List Row) : Type 0 where
+pub record Did (seats : List (ℕ × ℕ)) (old new : HeldView) (net : Net) (rows : List Row) : Type 0 where
   pub miniport : IsServed Miniport net rows old.miniport.did new.miniport.did
   pub protocols : (i : ℕ) → IsServed (Binding i) net rows (slice_index_or old.protocols i no_protocol).did (slice_index_or new.protocols i no_protocol).did
   pub filters : (f place : ℕ) → seat_of seats f ≡ Some place → IsServed (Filter f) net rows (filter_at old.filters (Some place)).did (filter_at new.filters (Some place)).did
-  pub shelved : (place : ℕ) → ((f : ℕ) → seat_of seats f ≡ Some place → ⊥) → IsIdle (filter_at old.filters (Some place)).did (filter_at new.filters (Some place)).did
+  pub shelved : (place : ℕ) → IsVacant seats place → IsIdle (filter_at old.filters (Some place)).did (filter_at new.filters (Some place)).did

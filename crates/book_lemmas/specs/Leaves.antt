@@ -10,7 +10,7 @@ use Rattle.journal_types.specs.declared.Row.{Row}
 use Rattle.journal_types.specs.declared.Row.TheVariants as row
 use Rattle.stack_rules.specs.Net.{Net, attached}
 use Rattle.stack_rules.specs.Places.{pool_in}
-use Rattle.book_lemmas.specs.Views.{BookView, filter_at, no_protocol, seat_of, pool_of_book}
+use Rattle.book_lemmas.specs.Views.{HeldView, filter_at, no_protocol, IsVacant, held_pool}
 
 -- rows of lists, statuses, requests and messages: all but those of phases and configurations
 abbrev pub ArePlain : List Row → Type 0
@@ -26,18 +26,20 @@ pub record IsCalm (net now : Net) : Type 0 where
   pub phase : now.phase ≡ net.phase
 
 -- no driver was attached, detached, opened, closed, initialised or halted, and the pools have their sizes
-pub record Leaves (old new : BookView) : Type 0 where
-  pub head : new.head ≡ old.head
+pub record Leaves (old new : HeldView) : Type 0 where
   pub seats : new.seats ≡ old.seats
   pub shelf : new.shelf ≡ old.shelf
   pub port : new.miniport.port ≡ old.miniport.port
   pub protocols : length new.protocols ≡ length old.protocols
+  pub drivers : length new.filters ≡ length old.filters
   pub opened : (i : ℕ) → (slice_index_or new.protocols i no_protocol).is_open ≡ (slice_index_or old.protocols i no_protocol).is_open
   pub kinds : (place : ℕ) → (filter_at new.filters (Some place)).kind ≡ (filter_at old.filters (Some place)).kind
   pub setups : (place : ℕ) → (filter_at new.filters (Some place)).setup ≡ (filter_at old.filters (Some place)).setup
-  pub resting : (place : ℕ) → ((f : ℕ) → seat_of old.seats f ≡ Some place → ⊥) → filter_at new.filters (Some place) ≡ filter_at old.filters (Some place)
-  pub sizes : (m : ModuleId) → (pool_of_book new m).size ≡ (pool_of_book old m).size
-  pub bytes : (m : ModuleId) → (pool_of_book new m).bytes ≡ (pool_of_book old m).bytes
+  pub resting : (place : ℕ) → IsVacant old.seats place → filter_at new.filters (Some place) ≡ filter_at old.filters (Some place)
+  pub protocol_pools : length new.protocol_pools ≡ length old.protocol_pools
+  pub filter_pools : length new.filter_pools ≡ length old.filter_pools
+  pub sizes : (m : ModuleId) → (held_pool new m).size ≡ (held_pool old m).size
+  pub bytes : (m : ModuleId) → (held_pool new m).bytes ≡ (held_pool old m).bytes
 
 -- rows of phases by which no filter is attached or detached
 abbrev pub IsStaying : ModuleState → Type 0

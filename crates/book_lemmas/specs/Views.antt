@@ -1,6 +1,6 @@
 -- What contracts see of drivers of every kind, and of a book that holds them: boxes stay at the places where the
 -- caller's order puts them; shelf and seats hold places.
-use Rattle.std.specs.Prelude.{ℕ, ◌==◌, Bool, false, List, [], ◌∷◌, Option, Some, None, if◌then◌else◌, slice_index_or}
+use Rattle.std.specs.Prelude.{ℕ, ◌≡◌, ◌<◌, ◌==◌, Bool, false, List, [], ◌∷◌, Option, Some, None, if◌then◌else◌, length, slice_index_or}
 use Rattle.ndis_base.specs.declared.FilterKind.{FilterKind}
 use Rattle.ndis_base.specs.declared.MiniportKind.{MiniportKind}
 use Rattle.ndis_base.specs.declared.ProtocolKind.{ProtocolKind}
@@ -11,6 +11,8 @@ use Rattle.ndis_base.specs.declared.ModuleId.TheVariants.{Miniport, Filter, Bind
 use Rattle.journal_types.specs.declared.PortSetup.{PortSetup}
 use Rattle.journal_types.specs.declared.Setup.{Setup}
 use Rattle.journal_types.specs.declared.StackHead.{StackHead}
+use Rattle.journal_types.specs.declared.Event.{Event}
+use Rattle.journal_types.specs.declared.Reply.{Reply}
 use Rattle.journal_types.specs.declared.Row.{Row}
 use Rattle.journal_types.specs.declared.Turn.{Turn}
 use Rattle.buffer_pools.specs.Views.{ListView, PoolView}
@@ -18,17 +20,9 @@ use Rattle.stack_rules.specs.Net.{Net}
 use Rattle.driver_views.specs.States.{Record, FilterState, MiniportState, ProtocolState, not_called}
 use Rattle.hand_lemmas.specs.Hands.{Carried, Hands}
 
--- the book: the journal and the turn under way, the queue, the drivers by place, the places on the shelf, the places
--- of the filters that are attached, and the pools; and for how many more rows, and bytes of their frames, there is room
-pub record BookView : Type 0 where
-  pub head : StackHead
-  pub turns : List Turn
-  pub begun : Net
-  pub net : Net
-  pub rows : List Row
-  pub room : ℕ
-  pub byte_room : ℕ
-  pub queue : List Carried
+-- what is held: the drivers by place, the places on the shelf, the places of the filters that are attached, and the
+-- pools
+pub record HeldView : Type 0 where
   pub miniport : MiniportState
   pub protocols : List ProtocolState
   pub filters : List FilterState
@@ -38,16 +32,32 @@ pub record BookView : Type 0 where
   pub protocol_pools : List PoolView
   pub filter_pools : List PoolView
 
--- what stands for a module that isn't there: it keeps nothing, and its pool has no list
+-- the book: the journal and the turn under way, with what was told beside its rows; for how many more rows, and bytes of their frames, there is room, the
+-- queue, and what is held
+pub record BookView : Type 0 where
+  pub head : StackHead
+  pub turns : List Turn
+  pub told_by : Option (Event × Reply)
+  pub net : Net
+  pub rows : List Row
+  pub room : ℕ
+  pub byte_room : ℕ
+  pub queue : List Carried
+  pub held : HeldView
+
+-- the pool of a module that isn't there has no list
 abbrev pub no_pool : PoolView
 no_pool = record { size = 0; bytes = 0; slots = [] }
 
+-- a driver that was never called
 abbrev pub never : Record
 never = record { served = not_called; log = [] }
 
+-- the driver of a filter that isn't there keeps nothing
 abbrev pub no_filter : FilterState
 no_filter = record { kind = filter_kind.Pass; setup = None; kept = []; did = never; refusals = 0 }
 
+-- the driver of a binding that isn't there keeps nothing
 abbrev pub no_protocol : ProtocolState
 no_protocol = record { kind = protocol_kind.Log; is_open = false; kept = []; did = never }
 
@@ -56,25 +66,38 @@ abbrev pub seat_of : List (ℕ × ℕ) → ℕ → Option ℕ
 seat_of [] f = None
 seat_of (s ∷ ss) f = if s.0 == f then Some s.1 else seat_of ss f
 
+-- no filter sits at this place
+abbrev pub IsVacant : List (ℕ × ℕ) → ℕ → Type 0
+IsVacant seats place = (f : ℕ) → seat_of seats f ≡ Some place → ⊥
+
+-- there is a driver at this place, and a pool
+pub record IsPlace (held : HeldView) (place : ℕ) : Type 0 where
+  pub driver : place < length held.filters
+  pub pool : place < length held.filter_pools
+
+-- the driver at a place
 abbrev pub filter_at : List FilterState → Option ℕ → FilterState
 filter_at filters None = no_filter
 filter_at filters (Some place) = slice_index_or filters place no_filter
 
+-- the pool at a place
 abbrev pub pool_at : List PoolView → Option ℕ → PoolView
 pool_at pools None = no_pool
 pool_at pools (Some place) = slice_index_or pools place no_pool
 
--- the lists that each module keeps, and each module's pool
-abbrev pub kept_of : BookView → ModuleId → List ListView
-kept_of b Miniport = b.miniport.kept
-kept_of b (Filter f) = (filter_at b.filters (seat_of b.seats f)).kept
-kept_of b (Binding i) = (slice_index_or b.protocols i no_protocol).kept
+-- the lists that a module keeps
+abbrev pub kept_of : HeldView → ModuleId → List ListView
+kept_of held Miniport = held.miniport.kept
+kept_of held (Filter f) = (filter_at held.filters (seat_of held.seats f)).kept
+kept_of held (Binding i) = (slice_index_or held.protocols i no_protocol).kept
 
-abbrev pub pool_of_book : BookView → ModuleId → PoolView
-pool_of_book b Miniport = b.miniport_pool
-pool_of_book b (Filter f) = pool_at b.filter_pools (seat_of b.seats f)
-pool_of_book b (Binding i) = slice_index_or b.protocol_pools i no_pool
+-- a module's pool
+abbrev pub held_pool : HeldView → ModuleId → PoolView
+held_pool held Miniport = held.miniport_pool
+held_pool held (Filter f) = pool_at held.filter_pools (seat_of held.seats f)
+held_pool held (Binding i) = slice_index_or held.protocol_pools i no_pool
 
--- all that is in hand: the book's, its drivers', and what the function of the event has issued in this turn
-abbrev pub hands_of : BookView → List ListView → Hands
-hands_of b loose = record { queue = b.queue; loose = loose; kept = kept_of b; pools = pool_of_book b }
+-- all that is in hand: what is on its way, what the drivers keep, and what the function of the event has issued in
+-- this turn
+abbrev pub hands_of : List Carried → HeldView → List ListView → Hands
+hands_of queue held loose = record { queue = queue; loose = loose; kept = kept_of held; pools = held_pool held }
