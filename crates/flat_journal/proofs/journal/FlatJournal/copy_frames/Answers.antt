@@ -11,8 +11,8 @@ returns-in_err-make_room-clause-grows c =
       turns = c.make_room.ensures.turns ∙ c.loop-frame.invariant.turns;
       rows = c.make_room.ensures.rows ∙ c.loop-frame.invariant.rows;
       payloads =
-        grown_by_frames c.args.self.now.payloads c.make_room.new.self.payloads
-        (take c.loop-frame.frame-index c.args.frames.now)
-        (ap (λ (p : Payloads). p.frames) done) (ap (λ (p : Payloads). p.filters) done)
-        (ap (λ (p : Payloads). p.setups) done);
+          grown_by_frames c.args.self.now.payloads c.make_room.new.self.payloads
+          (take c.loop-frame.frame-index c.args.frames.now)
+          (ap (λ (p : Payloads). p.frames) done) (ap (λ (p : Payloads). p.filters) done)
+          (ap (λ (p : Payloads). p.setups) done);
     }
