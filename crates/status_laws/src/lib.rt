@@ -1,0 +1,11 @@
+//! What the rows of a sound journal tell of the statuses that are on their way. There is no code here: the
+//! function's `ensures` is a law, proved once for all journals.
+#![tactic(auto)]
+
+ghost use Rattle.status_laws.specs.Standing.{EachStatusStands};
+
+/// After every sound journal each status on its way has a Status row with its number, its name and where it
+/// goes; while the stack is Halted none is on its way.
+pub fn statuses_stand()
+    ensures { EachStatusStands }
+{}
