@@ -13,7 +13,7 @@ picked=${1:-}
 ndis=$top/ndis
 example=$top/examples/one-frame.json
 report=$top/crates/ndis/stdout
-faults=$top/crates/script_faults
+faults=$top/crates/script_cases
 room=$(mktemp -d) || exit 2
 trap 'rm -rf "$room"' EXIT
 passed=0
@@ -170,7 +170,7 @@ edge 'error closed, a directory as input' 3 '' '$ndis replay </ 2>&-'
 edge 'error full, output closed' 4 '' '$ndis replay <"$example" >&- 2>/dev/full'
 edge 'all closed' 3 '' '$ndis replay <&- >&- 2>&-'
 
-# Each faulty script that script_faults reads, with the line that stands there.
+# Each faulty script that script_cases reads, with the line that stands there.
 if is_proved; then
     number=0
     while read -r line; do
@@ -183,8 +183,8 @@ fi
 
 # The most calls, and reports that are longer than the 1 MiB that an unproved program prints.
 edge '16,384 calls' 0 '' 'script_of_calls 16384 "$pump" | $ndis replay >"$room/many" && [ "$(grep -c " call 0 pump = idle$" "$room/many")" = 16384 ] && cat "$report"'
-python3 bench/sends.py 165 8 1518 >"$room/sends"
-python3 bench/sends.py 16384 1 14 >"$room/refused"
+python3 bench/scripts.py sends 165 8 1518 >"$room/sends"
+python3 bench/scripts.py sends 16384 1 14 >"$room/refused"
 if is_proved; then
     edge 'a long report' 0 '' '$ndis replay <"$room/sends" >"$room/long" && [ "$(grep -c " call 0 send b0 " "$room/long")" = 165 ] && cat "$report"'
     edge 'a long report, of which one line is read' 4 'write fault' '$ndis replay <"$room/sends" | head -n 1 >/dev/null; exit "${PIPESTATUS[0]}"'
