@@ -1,7 +1,8 @@
 //! Programs read from JSON.
 ghost use Rattle.std.specs.Prelude.{◌≡◌, [], map};
 ghost use Rattle.serde_json.specs.View.{view, items_view};
-ghost use Rattle.program_forms.specs.Form.{number_below, six_bytes, offset_and_byte, two_numbers, test_of_word, test_of_member, test_in, action_of_word, action_of_member, action_in, rule_in, rule_after, program_in};
+ghost use Rattle.program_forms.specs.Form.{number_below, six_bytes, offset_and_byte, two_numbers, test_of_word, test_of_member, test_in, action_of_word, action_of_member, action_in, rule_in, rule_or_fault, rule_after, program_in};
+ghost use Rattle.program_forms.specs.declared.reading.RuleFault.TheVariants as faults;
 ghost use Rattle.json_forms.specs.Lists.{read_all};
 ghost use Rattle.program_forms.specs.Gives.{Gives};
 
@@ -9,16 +10,24 @@ use hex::FromHex;
 use json_forms::{is_object_of, only_member};
 use program_types::{Action, Program, Rule, Test};
 use serde_json::Value;
-use std::alloc::Global;
+use std::alloc::{AllocFailed, Global};
 
 /// Why a value is no program.
-#[derive(Clone, Copy, Debug, PartialEq, Eq)]
+#[derive(Clone, Copy)]
 pub enum RuleFault {
     /// The first place in the list that isn't a rule, from 0; 0 too where the value is no list.
     BadRule(usize),
     /// More than 16 rules.
     TooMany,
     Memory,
+}
+
+impl From<AllocFailed<Rule>> for RuleFault {
+    ghost from_gives = { λ e fault. fault ≡ faults.Memory };
+
+    fn from(_fault: AllocFailed<Rule>) -> RuleFault {
+        RuleFault::Memory
+    }
 }
 
 fn number_of(value: &Value, limit: u64) -> Option<u64>
@@ -159,18 +168,21 @@ fn rule_at(value: &Value) -> Option<Rule>
     Some(Rule { test, action })
 }
 
+fn rule_or_fault(place: usize, value: &Value) -> Result<Rule, RuleFault>
+    ensures { result ≡ rule_or_fault place (rule_in (view value.now)) }
+{
+    match rule_at(value) {
+        Some(rule) => Ok(rule),
+        None => Err(RuleFault::BadRule(place)),
+    }
+}
+
 fn rules_of(alloc: Global, items: &[Value]) -> Result<Program, RuleFault>
     ensures { Gives result (read_all rule_after [] (map view items.now)) }
 {
     let mut rules = Vec::new(alloc);
     for (place, item) in items.iter().enumerate() {
-        let Some(rule) = rule_at(item) else {
-            return Err(RuleFault::BadRule(place));
-        };
-        match rules.push(rule) {
-            Ok(()) => {}
-            Err(_) => return Err(RuleFault::Memory),
-        }
+        rules.push(rule_or_fault(place, item)?)?;
     }
     Ok(Program::of(rules))
 }

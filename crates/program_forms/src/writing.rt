@@ -29,10 +29,17 @@ fn hex_member(alloc: Global, name: &str, bytes: [u8; 6]) -> Result<Value, AllocE
     json!(in alloc; {name: text})
 }
 
+fn place_and_byte_value(alloc: Global, at: u16, value: u8) -> Result<Value, AllocError>
+    ensures { IfOk result (λ v. view v ≡ offset_and_byte_data at value) }
+{
+    json!(in alloc; [at, value])
+}
+
 fn byte_member(alloc: Global, name: &str, at: u16, value: u8) -> Result<Value, AllocError>
     ensures { IfOk result (λ v. view v ≡ member_data name.now (offset_and_byte_data at value)) }
 {
-    json!(in alloc; {name: [at, value]})
+    let both = place_and_byte_value(alloc, at, value)?;
+    json!(in alloc; {name: both})
 }
 
 fn test_value(alloc: Global, test: Test) -> Result<Value, AllocError>
