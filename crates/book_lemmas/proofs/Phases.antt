@@ -17,7 +17,8 @@ use Rattle.stack_rules.specs.Net.{Net, after, after_rows, attached, with_state, 
 use Rattle.stack_rules.specs.Places.{pool_of, pool_in}
 use Rattle.stack_rules.specs.Rewires.{is_in}
 use Rattle.state_laws.specs.Laws.{IsThere}
-use Rattle.hand_lemmas.specs.Hands.{Carried, Hands, Agrees}
+use Rattle.agenda_items.specs.declared.Carried.{Carried}
+use Rattle.hand_lemmas.specs.Hands.{Hands, Agrees}
 use Rattle.hand_lemmas.proofs.Rows.{phased}
 use Rattle.book_lemmas.specs.Views.{HeldView, hands_of, seat_of}
 use Rattle.book_lemmas.specs.Leaves.{ArePhases, IsStaying, IsPhaseOnly, WasAttached, IsSeatedStill, Leaves}

@@ -17,7 +17,8 @@ use Rattle.stack_rules.specs.declared.Attached.{Attached}
 use Rattle.stack_rules.specs.Net.{Net, Modules, after, after_rows, attached}
 use Rattle.stack_rules.specs.Places.{pool_of, pool_in}
 use Rattle.state_laws.specs.Laws.{IsThere}
-use Rattle.hand_lemmas.specs.Hands.{Agrees, Carried}
+use Rattle.agenda_items.specs.declared.Carried.{Carried}
+use Rattle.hand_lemmas.specs.Hands.{Agrees}
 use Rattle.book_lemmas.specs.Views.{filter_at, HeldView, IsVacant, IsPlace, no_protocol, seat_of, hands_of}
 use Rattle.driver_views.specs.States.{ProtocolState}
 use Rattle.book_lemmas.specs.Leaves.{ArePlain, IsCalm, Leaves}

@@ -12,7 +12,8 @@ use Rattle.stack_rules.specs.Places.{pool_of}
 use Rattle.state_laws.specs.Laws.{IsThere}
 use Rattle.promise_rules.specs.Drivers.{shelf_of, driver_of}
 use Rattle.hand_lemmas.specs.Frames.{AreSized}
-use Rattle.hand_lemmas.specs.Hands.{Carried, Agrees}
+use Rattle.agenda_items.specs.declared.Carried.{Carried}
+use Rattle.hand_lemmas.specs.Hands.{Agrees}
 use Rattle.agenda_items.specs.declared.Carried.TheVariants.{List as a_list, Status as a_status, Answer as an_answer}
 use Rattle.book_lemmas.specs.Views.{HeldView, filter_at, seat_of, IsVacant, IsPlace, held_pool, kept_of, hands_of}
 use Rattle.driver_views.specs.States.{FilterState, ProtocolState}
