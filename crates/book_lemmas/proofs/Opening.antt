@@ -1,6 +1,6 @@
 -- A book that was opened stands: nothing is in hand, and no filter is attached.
 use Rattle.std.proofs.Common.{◌≡◌, ℕ, List, [], ◌∷◌, Some, length, refl, sym, ap, subst, All, arith}
-use Rattle.std.proofs.lemmas.List.Elements.{All-nil}
+use Rattle.std.proofs.lemmas.List.Elements.{All-nil, All-weaker}
 use Rattle.ndis_base.specs.declared.ModuleId.TheVariants.{Miniport}
 use Rattle.journal_types.specs.declared.StackHead.{StackHead}
 use Rattle.stack_rules.specs.declared.Attached.{Attached}
@@ -8,7 +8,7 @@ use Rattle.stack_rules.specs.Net.{start, attached}
 use Rattle.rule_basics.proofs.Numbered.{numbered_start}
 use Rattle.hand_lemmas.specs.Hands.{Hands}
 use Rattle.hand_lemmas.proofs.Rows.{agrees_start, agrees_same}
-use Rattle.book_lemmas.specs.Views.{HeldView, seat_of, held_pool, hands_of}
+use Rattle.book_lemmas.specs.Views.{HeldView, IsPlace, IsOnShelf, seat_of, held_pool, hands_of}
 use Rattle.book_lemmas.specs.Opened.{IsOpened}
 use Rattle.book_lemmas.specs.Stands.{Stands, IsSized, IsCarriedSized}
 
@@ -38,6 +38,7 @@ stands_start head held o =
       protocol_pools = o.protocol_pools;
       seated = λ f a there. absurd (none_attached f a (start head).modules.filters refl there);
       places = λ f place e. absurd (none_seated held.seats f place o.seats e);
+      shelved = All-weaker (IsPlace held) (IsOnShelf held) (λ place is. record { is = is; vacant = λ f e. none_seated held.seats f place o.seats e }) held.shelf o.shelf;
       apart = λ f g place e k. absurd (none_seated held.seats f place o.seats e);
       resting = λ place none. o.resting place;
       drivers = (o.port, o.closed);

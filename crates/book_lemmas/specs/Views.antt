@@ -71,6 +71,11 @@ pub record IsPlace (held : HeldView) (place : ℕ) : Type 0 where
   pub driver : place < length held.filters
   pub pool : place < length held.filter_pools
 
+-- a place on the shelf has a driver and a pool, and no filter sits there
+pub record IsOnShelf (held : HeldView) (place : ℕ) : Type 0 where
+  pub is : IsPlace held place
+  pub vacant : IsVacant held.seats place
+
 -- the driver at a place
 abbrev pub filter_at : List FilterState → Option ℕ → FilterState
 filter_at filters None = no_filter
