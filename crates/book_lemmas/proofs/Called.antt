@@ -13,7 +13,7 @@ use Rattle.book_lemmas.specs.Views.{HeldView, no_filter, no_protocol, filter_at,
 use Rattle.book_lemmas.specs.Stands.{Stands, AllSized, IsSized, IsCarriedSized}
 use Rattle.book_lemmas.specs.Leaves.{Leaves}
 use Rattle.book_lemmas.specs.Called.{SitsAt, IsCalled, filter_called, miniport_called, protocol_called}
-use Rattle.book_lemmas.proofs.Seats.{filter_kept, filter_pooled, miniport_kept, miniport_pooled, protocol_kept, protocol_pooled}
+use Rattle.book_lemmas.proofs.Seats.{filter_kept, filter_pooled, protocol_kept, protocol_pooled}
 
 -- a filter that has a place in a book that stands sits there
 pub sits_at : {net : Net} {queue : List Carried} {held : HeldView} {loose : List ListView} → Stands net queue held loose → (f place : ℕ) → seat_of held.seats f ≡ Some place → SitsAt held f place

@@ -49,6 +49,7 @@ pub record IsFound (rows : List Row) (n : ℕ) (label : Label) : Type 0 where
   pub first : find (is_issue n) rows ≡ Some issue
   pub shows : direction_in (Some issue) ≡ label.direction
 
+-- so was each one of the register, and no number from the next one on
 pub record Found (rows : List Row) (reg : Register) : Type 0 where
   pub issued : (n : ℕ) (label : Label) → reg.live n ≡ Some label → IsFound rows n label
   pub none : (n : ℕ) → reg.next ≤ n → find (is_issue n) rows ≡ None
@@ -143,6 +144,7 @@ direction_known (Some l) label e = ap (λ (o : Option Label). shown o) e
     shown None = direction.Lent
     shown (Some label) = label.direction
 
+-- a row by which no request is done
 abbrev pub IsNoAnswer : Row → Type 0
 IsNoAnswer (row.OidDone request status value) = ⊥
 IsNoAnswer _ = Unit {0}
@@ -177,6 +179,7 @@ calls_are turns net reg before rest (row.CrossIn stack message way frames) other
 
 -- So the calls that a journal serves a module are those that its states tell.
 
+-- rows of that kind alone
 abbrev pub NoAnswers : List Row → Type 0
 NoAnswers [] = Unit {0}
 NoAnswers (r ∷ rows) = IsNoAnswer r × NoAnswers rows

@@ -24,12 +24,13 @@ use Rattle.stack_rules.specs.Net.{Net, Modules, after_rows}
 use Rattle.stack_rules.specs.Places.{agenda_first, position}
 use Rattle.stack_rules.specs.Handled.{filter_rows}
 use Rattle.stack_rules.specs.Targets.{onward, homeward_by}
-use Rattle.hand_lemmas.specs.Hands.{Carried, Common, Hands, Agrees, IsSame, in_state}
+use Rattle.agenda_items.specs.declared.Carried.{Carried}
+use Rattle.hand_lemmas.specs.Hands.{Common, Hands, Agrees, IsSame, in_state}
 use Rattle.agenda_items.specs.declared.Carried.TheVariants.{List as a_list}
 use Rattle.hand_lemmas.proofs.Rows.{agrees_same}
 use Rattle.hand_lemmas.proofs.Tells.{next_list}
-use Rattle.hand_lemmas.proofs.Handed.{Did, back_rows, none_rows, same_rows, held_rows, lacked_rows, cloned_rows}
-use Rattle.hand_lemmas.proofs.Handed.Did.{dropped, passed_on, held, lacked, cloned}
+use Rattle.hand_lemmas.proofs.Handed.{FilterDid, back_rows, none_rows, same_rows, held_rows, lacked_rows, cloned_rows}
+use Rattle.hand_lemmas.proofs.Handed.FilterDid.{dropped, passed_on, held, lacked, cloned}
 use Rattle.book_lemmas.specs.Views.{BookView, HeldView, hands_of}
 use Rattle.book_lemmas.specs.Between.{IsBetween}
 use Rattle.book_lemmas.specs.Leaves.{ArePlain, Leaves}
@@ -53,7 +54,7 @@ homeward_plain ms n owner direction.Lent i status = tt
 back_plain : (net : Net) (c : Common) (m : ModuleId) (status : ListStatus) → ArePlain (back_rows net c m status)
 back_plain net c m status = homeward_plain net.modules c.list c.owner c.direction (position net.modules.order m) status
 
-pub filter_plain : (net : Net) (a : Attached) (x : LiveList) (keeps : Bool) (l : ListView) (queue : List Carried) (h h' : Hands) → Did net a x keeps l queue h h' → ArePlain (filter_rows net a x keeps)
+pub filter_plain : (net : Net) (a : Attached) (x : LiveList) (keeps : Bool) (l : ListView) (queue : List Carried) (h h' : Hands) → FilterDid net a x keeps l queue h h' → ArePlain (filter_rows net a x keeps)
 filter_plain net a x keeps l queue h h' (dropped made is) = subst ArePlain (sym (none_rows net a x keeps made)) (back_plain net (in_state x) (Filter a.filter) Dropped)
 filter_plain net a x keeps l queue h h' (passed_on frames made alike other is) =
     subst ArePlain (sym (same_rows net a x keeps frames made alike other)) (onward_plain net.modules x.list x.direction (position net.modules.order (Filter a.filter)))
@@ -87,7 +88,7 @@ has_filter {head} {turns} {net} s between x f first stands =
 
 pub given_to_filter : {b b' : BookView} (s : Stands b.net b.queue b.held []) (between : IsBetween b.head b.turns b.net) (who : Who) (l : ListView) (queue : List Carried) (e : b.queue ≡ a_list l ∷ queue) (f : ℕ)
     → (next_list b.net (hands_of b.queue b.held []) l queue s.agrees e).x.stand ≡ stand.Passed way.Down (Module (Filter f)) → (at : IsAtFilter b.net f) (keeps : Bool) (h' : Hands)
-    → Did b.net at.a (next_list b.net (hands_of b.queue b.held []) l queue s.agrees e).x keeps l queue (hands_of b.queue b.held []) h'
+    → FilterDid b.net at.a (next_list b.net (hands_of b.queue b.held []) l queue s.agrees e).x keeps l queue (hands_of b.queue b.held []) h'
     → IsSame h' (hands_of b'.queue b'.held []) → Leaves b.held b'.held → AllSized b'.queue b'.held [] → length b'.held.miniport.kept ≤ b.net.head.port.ring
     → b'.net ≡ after_rows b.net (filter_rows b.net at.a (next_list b.net (hands_of b.queue b.held []) l queue s.agrees e).x keeps)
     → IsGiven b b' at.a (next_list b.net (hands_of b.queue b.held []) l queue s.agrees e).x keeps who

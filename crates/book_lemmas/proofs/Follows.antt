@@ -1,12 +1,12 @@
 -- The state follows the journal as rows are written and as they become a turn.
-use Rattle.std.proofs.Common.{◌≡◌, ◌≤◌, length, List, [], ◌∷◌, ◌++◌, Option, Some, None, refl, sym, ap, ◌∙◌, subst}
+use Rattle.std.proofs.Common.{◌≡◌, ◌≤◌, length, List, [], ◌∷◌, ◌++◌, Option, None, refl, sym, ap, ◌∙◌}
 use Rattle.journal_types.specs.declared.Event.{Event}
 use Rattle.journal_types.specs.declared.Reply.{Reply}
 use Rattle.journal_types.specs.declared.Row.{Row}
 use Rattle.journal_types.specs.declared.StackHead.{StackHead}
 use Rattle.journal_types.specs.declared.Turn.{Turn}
 use Rattle.stack_rules.specs.Net.{Net, start, seen, told, after_rows, after_turn, after_turns}
-use Rattle.stack_rules.specs.Sound.{Next, Sound, SoundFrom}
+use Rattle.stack_rules.specs.Sound.{Next, SoundFrom}
 use Rattle.book_lemmas.specs.Between.{IsBetween}
 use Rattle.book_lemmas.specs.Follows.{begun_by, Follows}
 use Rattle.book_lemmas.proofs.Goes.{after_rows-append}

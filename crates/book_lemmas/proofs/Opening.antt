@@ -1,30 +1,16 @@
 -- A book that was opened stands: nothing is in hand, and no filter is attached.
-use Rattle.std.proofs.Common.{◌≡◌, ℕ, List, [], ◌∷◌, Some, None, length, refl, sym, ap, subst, All, arith}
-use Rattle.std.proofs.lemmas.List.Elements.{All-nil}
-use Rattle.ndis_base.specs.declared.ModuleId.{ModuleId}
+use Rattle.std.proofs.Common.{◌≡◌, ℕ, List, [], ◌∷◌, Some, length, refl, sym, ap, subst, All, arith}
+use Rattle.std.proofs.lemmas.List.Elements.{All-nil, All-weaker}
 use Rattle.ndis_base.specs.declared.ModuleId.TheVariants.{Miniport}
 use Rattle.journal_types.specs.declared.StackHead.{StackHead}
-use Rattle.buffer_pools.specs.Views.{live_count}
 use Rattle.stack_rules.specs.declared.Attached.{Attached}
-use Rattle.stack_rules.specs.Net.{Net, start, attached}
+use Rattle.stack_rules.specs.Net.{start, attached}
 use Rattle.rule_basics.proofs.Numbered.{numbered_start}
-use Rattle.state_laws.specs.Laws.{IsThere}
 use Rattle.hand_lemmas.specs.Hands.{Hands}
 use Rattle.hand_lemmas.proofs.Rows.{agrees_start, agrees_same}
-use Rattle.book_lemmas.specs.Views.{HeldView, filter_at, seat_of, kept_of, held_pool, hands_of}
-use Rattle.book_lemmas.specs.Stands.{Stands, IsPoolOf, IsSized, IsCarriedSized, IsResting, IsClosed}
-
--- what is held as a book is opened: nothing is kept, no filter is attached, and no driver is set up
-pub record IsOpened (net : Net) (held : HeldView) : Type 0 where
-  pub seats : held.seats ≡ []
-  pub kept : (m : ModuleId) → kept_of held m ≡ []
-  pub empty : (m : ModuleId) → live_count (held_pool held m) ≡ 0
-  pub pools : (m : ModuleId) → IsThere net m → IsPoolOf net m (held_pool held m)
-  pub protocols : length held.protocols ≡ length net.head.bindings
-  pub protocol_pools : length held.protocol_pools ≡ length net.head.bindings
-  pub resting : (place : ℕ) → IsResting (filter_at held.filters (Some place))
-  pub port : held.miniport.port ≡ None
-  pub closed : All IsClosed held.protocols
+use Rattle.book_lemmas.specs.Views.{HeldView, IsPlace, IsOnShelf, seat_of, held_pool, hands_of}
+use Rattle.book_lemmas.specs.Opened.{IsOpened}
+use Rattle.book_lemmas.specs.Stands.{Stands, IsSized, IsCarriedSized}
 
 none_attached : (f : ℕ) (a : Attached) (entries : List Attached) → entries ≡ [] → attached f entries ≡ Some a → ⊥
 none_attached f a [] e some = cc
@@ -52,6 +38,7 @@ stands_start head held o =
       protocol_pools = o.protocol_pools;
       seated = λ f a there. absurd (none_attached f a (start head).modules.filters refl there);
       places = λ f place e. absurd (none_seated held.seats f place o.seats e);
+      shelved = All-weaker (IsPlace held) (IsOnShelf held) (λ place is. record { is = is; vacant = λ f e. none_seated held.seats f place o.seats e }) held.shelf o.shelf;
       apart = λ f g place e k. absurd (none_seated held.seats f place o.seats e);
       resting = λ place none. o.resting place;
       drivers = (o.port, o.closed);

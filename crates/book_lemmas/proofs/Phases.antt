@@ -17,11 +17,12 @@ use Rattle.stack_rules.specs.Net.{Net, after, after_rows, attached, with_state, 
 use Rattle.stack_rules.specs.Places.{pool_of, pool_in}
 use Rattle.stack_rules.specs.Rewires.{is_in}
 use Rattle.state_laws.specs.Laws.{IsThere}
-use Rattle.hand_lemmas.specs.Hands.{Carried, Hands, Agrees}
+use Rattle.agenda_items.specs.declared.Carried.{Carried}
+use Rattle.hand_lemmas.specs.Hands.{Hands, Agrees}
 use Rattle.hand_lemmas.proofs.Rows.{phased}
 use Rattle.book_lemmas.specs.Views.{HeldView, hands_of, seat_of}
 use Rattle.book_lemmas.specs.Leaves.{ArePhases, IsStaying, IsPhaseOnly, WasAttached, IsSeatedStill, Leaves}
-use Rattle.book_lemmas.proofs.Standing.{places_still, resting_still}
+use Rattle.book_lemmas.proofs.Standing.{places_still, resting_still, shelved_still}
 use Rattle.book_lemmas.specs.Stands.{Stands, AllSized, IsSeated, DriversFit}
 
 -- a filter takes another state
@@ -189,6 +190,7 @@ stands_phases net now queue queue' held held' rows s l phases is agrees sized ri
       protocol_pools = l.protocol_pools ∙ s.protocol_pools ∙ ap (λ (h : StackHead). length h.bindings) (sym c.head);
       seated = λ f a there. seated_still net held held' l a f (c.filters f a there) s.seated;
       places = places_still held held' l s.places;
+      shelved = shelved_still held held' l s.shelved;
       apart = λ f g place e k. s.apart f g place (ap (λ seats. seat_of seats f) (sym l.seats) ∙ e) (ap (λ seats. seat_of seats g) (sym l.seats) ∙ k);
       resting = resting_still held held' l s.resting;
       drivers = subst (λ (h : StackHead). DriversFit h.port held' now.phase) (sym c.head) drivers;

@@ -24,10 +24,11 @@ use Rattle.stack_rules.specs.Pumps.{pump_outcome, pump_of, moved_rows}
 use Rattle.stack_rules.specs.Sends.{at_filter}
 use Rattle.stack_rules.specs.Handled.{filter_rows}
 use Rattle.stack_rules.specs.Sound.{Next}
-use Rattle.hand_lemmas.specs.Hands.{Carried, Hands, Agrees, in_hand, in_state}
+use Rattle.agenda_items.specs.declared.Carried.{Carried}
+use Rattle.hand_lemmas.specs.Hands.{Hands, Agrees, in_hand, in_state}
 use Rattle.agenda_items.specs.declared.Carried.TheVariants.{List as a_list}
 use Rattle.hand_lemmas.proofs.Tells.{IsNext, next_list}
-use Rattle.hand_lemmas.proofs.Handed.{Did, filter_did}
+use Rattle.hand_lemmas.proofs.Handed.{FilterDid, filter_did}
 use Rattle.book_lemmas.specs.Between.{IsBetween}
 use Rattle.book_lemmas.proofs.Between.{IsAtFilter}
 
@@ -50,7 +51,7 @@ pub record IsPumped (head : StackHead) (turns : List Turn) (net : Net) (a : Atta
 -- the filter that a pump calls is attached, and whatever it does the turn may come next
 pub pumped : {head : StackHead} {turns : List Turn} {net : Net} (b : IsBetween head turns net) (who : Who) (l : ListView) (queue : List Carried) (h h' : Hands) (g : Agrees net h) (e : h.queue ≡ a_list l ∷ queue)
     (f : ℕ) → (next_list net h l queue g e).x.stand ≡ stand.Passed way.Down (Module (Filter f)) → (at : IsAtFilter net f) (keeps : Bool)
-    → Did net at.a (next_list net h l queue g e).x keeps l queue h h' → IsPumped head turns net at.a (next_list net h l queue g e).x keeps who h'
+    → FilterDid net at.a (next_list net h l queue g e).x keeps l queue h h' → IsPumped head turns net at.a (next_list net h l queue g e).x keeps who h'
 pumped {head} {turns} {net} b who l queue h h' g e f stands at keeps did =
     let n : IsNext net h l = next_list net h l queue g e in
     let is : pump_outcome net keeps ≡ record { reply = reply.Moved; rows = filter_rows net at.a n.x keeps } = pump_at_filter net keeps n.x f at.a n.first stands at.there in

@@ -5,7 +5,8 @@ use Rattle.ndis_base.specs.declared.ModuleId.{ModuleId}
 use Rattle.ndis_base.specs.declared.ModuleId.TheVariants.{Miniport, Filter, Binding}
 use Rattle.buffer_pools.specs.Views.{ListView, PoolView}
 use Rattle.stack_rules.specs.Net.{Net}
-use Rattle.hand_lemmas.specs.Hands.{Carried, Agrees, put_at}
+use Rattle.agenda_items.specs.declared.Carried.{Carried}
+use Rattle.hand_lemmas.specs.Hands.{Agrees, put_at}
 use Rattle.hand_lemmas.proofs.Rows.{agrees_same}
 use Rattle.book_lemmas.specs.Views.{HeldView, no_filter, no_protocol, no_pool, filter_at, pool_at, seat_of, kept_of, held_pool, hands_of}
 use Rattle.driver_views.specs.States.{FilterState, MiniportState, ProtocolState}

@@ -1,7 +1,7 @@
 -- One step lemma for every event but those of phases and rewires: where rows change no module and the drivers' calls
 -- attach and open nothing, a book stands again as soon as its hands agree.
 use Rattle.std.proofs.Common.{◌≡◌, ℕ, ◌≤◌, ◌<◌, List, [], ◌∷◌, Some, length, slice_index_or, refl, sym, ap, ◌∙◌, subst, All}
-use Rattle.std.proofs.lemmas.List.Elements.{All-from_get_or}
+use Rattle.std.proofs.lemmas.List.Elements.{All-from_get_or, All-weaker}
 use Rattle.ndis_base.specs.declared.ModuleId.{ModuleId}
 use Rattle.ndis_base.specs.declared.ModuleId.TheVariants.{Miniport, Filter, Binding}
 use Rattle.ndis_base.specs.declared.ProtocolKind.TheVariants as protocol_kind
@@ -17,8 +17,9 @@ use Rattle.stack_rules.specs.declared.Attached.{Attached}
 use Rattle.stack_rules.specs.Net.{Net, Modules, after, after_rows, attached}
 use Rattle.stack_rules.specs.Places.{pool_of, pool_in}
 use Rattle.state_laws.specs.Laws.{IsThere}
-use Rattle.hand_lemmas.specs.Hands.{Agrees, Carried}
-use Rattle.book_lemmas.specs.Views.{filter_at, HeldView, IsVacant, IsPlace, no_protocol, seat_of, hands_of}
+use Rattle.agenda_items.specs.declared.Carried.{Carried}
+use Rattle.hand_lemmas.specs.Hands.{Agrees}
+use Rattle.book_lemmas.specs.Views.{filter_at, HeldView, IsVacant, IsPlace, IsOnShelf, no_protocol, seat_of, hands_of}
 use Rattle.driver_views.specs.States.{ProtocolState}
 use Rattle.book_lemmas.specs.Leaves.{ArePlain, IsCalm, Leaves}
 use Rattle.book_lemmas.specs.Stands.{Stands, AllSized, IsSeated, IsClosed, DriversFit, IsResting}
@@ -77,10 +78,17 @@ resting_still held held' l rest place none =
     let before : IsVacant held.seats place = λ f e. none f (ap (λ seats. seat_of seats f) l.seats ∙ e) in
     subst IsResting (sym (l.resting place before)) (rest place before)
 
+place_still : (held held' : HeldView) → Leaves held held' → (place : ℕ) → IsPlace held place → IsPlace held' place
+place_still held held' l place p = record { driver = subst (λ n. place < n) (sym l.drivers) p.driver; pool = subst (λ n. place < n) (sym l.filter_pools) p.pool }
+
 pub places_still : (held held' : HeldView) → Leaves held held' → ((f place : ℕ) → seat_of held.seats f ≡ Some place → IsPlace held place) → (f place : ℕ) → seat_of held'.seats f ≡ Some place → IsPlace held' place
-places_still held held' l places f place seat =
-    let p : IsPlace held place = places f place (ap (λ seats. seat_of seats f) (sym l.seats) ∙ seat) in
-    record { driver = subst (λ n. place < n) (sym l.drivers) p.driver; pool = subst (λ n. place < n) (sym l.filter_pools) p.pool }
+places_still held held' l places f place seat = place_still held held' l place (places f place (ap (λ seats. seat_of seats f) (sym l.seats) ∙ seat))
+
+pub shelved_still : (held held' : HeldView) → Leaves held held' → All (IsOnShelf held) held.shelf → All (IsOnShelf held') held'.shelf
+shelved_still held held' l shelved =
+    subst (All (IsOnShelf held')) (sym l.shelf)
+    (All-weaker (IsOnShelf held) (IsOnShelf held')
+    (λ place s. record { is = place_still held held' l place s.is; vacant = λ f e. s.vacant f (ap (λ seats. seat_of seats f) (sym l.seats) ∙ e) }) held.shelf shelved)
 
 seated_still : (held held' : HeldView) → Leaves held held' → (a : Attached) → IsSeated held a → IsSeated held' a
 seated_still held held' l a s = record {
@@ -103,6 +111,7 @@ stands_step net now queue queue' held held' loose loose' rows s l plain is agree
       protocol_pools = l.protocol_pools ∙ s.protocol_pools ∙ ap (λ (h : StackHead). length h.bindings) (sym c.head);
       seated = λ f a there. seated_still held held' l a (s.seated f a (ap (λ (ms : Modules). attached f ms.filters) (sym c.modules) ∙ there));
       places = places_still held held' l s.places;
+      shelved = shelved_still held held' l s.shelved;
       apart = λ f g place e k. s.apart f g place (ap (λ seats. seat_of seats f) (sym l.seats) ∙ e) (ap (λ seats. seat_of seats g) (sym l.seats) ∙ k);
       resting = resting_still held held' l s.resting;
       drivers = subst (λ (n : StackHead). DriversFit n.port held' now.phase) (sym c.head) (subst (DriversFit net.head.port held') (sym c.phase) (fit_still held held' net.head.port l net.phase s.drivers));

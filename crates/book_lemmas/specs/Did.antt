@@ -31,10 +31,12 @@ abbrev pub holder_now : RequestAt → List Call
 holder_now (at.Given (Filter f)) = call (Filter f) called.OidComplete
 holder_now _ = []
 
+-- so does the binding of a request that is no clone
 abbrev pub asker_now : Option OidNo → ℕ → List Call
 asker_now None binding = call (Binding binding) called.OidComplete
 asker_now (Some parent) binding = []
 
+-- the calls by which a request is done
 abbrev pub completes : Option Request → List Call
 completes None = []
 completes (Some r) = holder_now r.at ++ asker_now r.parent r.binding
@@ -59,6 +61,7 @@ abbrev pub calls_of : Net → List Turn → List Call
 calls_of net [] = []
 calls_of net (t ∷ ts) = calls_in (told net t.event t.reply) t.rows ++ calls_of (after_turn net t) ts
 
+-- what rows add to the log of a module
 abbrev pub logs_in : ModuleId → List Row → List (List (List ℕ))
 logs_in m rows = flat_map (logged_at m) rows
 

@@ -46,10 +46,12 @@ abbrev pub IsStaying : ModuleState → Type 0
 IsStaying state.Detached = ⊥
 IsStaying _ = Unit {0}
 
+-- the phase of a stack, or such a state of a module
 abbrev pub IsPhaseOnly : PhaseOf → Type 0
 IsPhaseOnly (of.Module m s) = IsStaying s
 IsPhaseOnly (of.Stack p) = Unit {0}
 
+-- rows of such phases alone
 abbrev pub ArePhases : List Row → Type 0
 ArePhases [] = Unit {0}
 ArePhases (row.Phase whose ∷ rows) = IsPhaseOnly whose × ArePhases rows

@@ -12,9 +12,10 @@ use Rattle.stack_rules.specs.Places.{pool_of}
 use Rattle.state_laws.specs.Laws.{IsThere}
 use Rattle.promise_rules.specs.Drivers.{shelf_of, driver_of}
 use Rattle.hand_lemmas.specs.Frames.{AreSized}
-use Rattle.hand_lemmas.specs.Hands.{Carried, Agrees}
+use Rattle.agenda_items.specs.declared.Carried.{Carried}
+use Rattle.hand_lemmas.specs.Hands.{Agrees}
 use Rattle.agenda_items.specs.declared.Carried.TheVariants.{List as a_list, Status as a_status, Answer as an_answer}
-use Rattle.book_lemmas.specs.Views.{HeldView, filter_at, seat_of, IsVacant, IsPlace, held_pool, kept_of, hands_of}
+use Rattle.book_lemmas.specs.Views.{HeldView, filter_at, seat_of, IsVacant, IsPlace, IsOnShelf, held_pool, kept_of, hands_of}
 use Rattle.driver_views.specs.States.{FilterState, ProtocolState}
 
 -- each module that is there has a pool of the size that the rules give it, with room for frames of 1518 bytes
@@ -73,6 +74,7 @@ pub record Stands (net : Net) (queue : List Carried) (held : HeldView) (loose : 
   pub protocol_pools : length held.protocol_pools ≡ length net.head.bindings
   pub seated : (f : ℕ) (a : Attached) → attached f net.modules.filters ≡ Some a → IsSeated held a
   pub places : (f place : ℕ) → seat_of held.seats f ≡ Some place → IsPlace held place
+  pub shelved : All (IsOnShelf held) held.shelf
   pub apart : SeatsApart held.seats
   pub resting : (place : ℕ) → IsVacant held.seats place → IsResting (filter_at held.filters (Some place))
   pub drivers : DriversFit net.head.port held net.phase

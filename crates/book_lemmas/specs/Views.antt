@@ -1,15 +1,10 @@
 -- What contracts see of drivers of every kind, and of a book that holds them: boxes stay at the places where the
 -- caller's order puts them; shelf and seats hold places.
-use Rattle.std.specs.Prelude.{ℕ, ◌≡◌, ◌<◌, ◌==◌, Bool, false, List, [], ◌∷◌, Option, Some, None, if◌then◌else◌, length, slice_index_or}
-use Rattle.ndis_base.specs.declared.FilterKind.{FilterKind}
-use Rattle.ndis_base.specs.declared.MiniportKind.{MiniportKind}
-use Rattle.ndis_base.specs.declared.ProtocolKind.{ProtocolKind}
+use Rattle.std.specs.Prelude.{ℕ, ◌≡◌, ◌<◌, ◌==◌, false, List, [], ◌∷◌, Option, Some, None, if◌then◌else◌, length, slice_index_or}
 use Rattle.ndis_base.specs.declared.ProtocolKind.TheVariants as protocol_kind
 use Rattle.ndis_base.specs.declared.FilterKind.TheVariants as filter_kind
 use Rattle.ndis_base.specs.declared.ModuleId.{ModuleId}
 use Rattle.ndis_base.specs.declared.ModuleId.TheVariants.{Miniport, Filter, Binding}
-use Rattle.journal_types.specs.declared.PortSetup.{PortSetup}
-use Rattle.journal_types.specs.declared.Setup.{Setup}
 use Rattle.journal_types.specs.declared.StackHead.{StackHead}
 use Rattle.journal_types.specs.declared.Event.{Event}
 use Rattle.journal_types.specs.declared.Reply.{Reply}
@@ -18,7 +13,8 @@ use Rattle.journal_types.specs.declared.Turn.{Turn}
 use Rattle.buffer_pools.specs.Views.{ListView, PoolView}
 use Rattle.stack_rules.specs.Net.{Net}
 use Rattle.driver_views.specs.States.{Record, FilterState, MiniportState, ProtocolState, not_called}
-use Rattle.hand_lemmas.specs.Hands.{Carried, Hands}
+use Rattle.agenda_items.specs.declared.Carried.{Carried}
+use Rattle.hand_lemmas.specs.Hands.{Hands}
 
 -- what is held: the drivers by place, the places on the shelf, the places of the filters that are attached, and the
 -- pools
@@ -32,8 +28,8 @@ pub record HeldView : Type 0 where
   pub protocol_pools : List PoolView
   pub filter_pools : List PoolView
 
--- the book: the journal and the turn under way, with what was told beside its rows; for how many more rows, and bytes of their frames, there is room, the
--- queue, and what is held
+-- the book: the journal and the turn under way, with what was told beside its rows; for how many more rows, and
+-- bytes of their frames, there is room; the queue, and what is held
 pub record BookView : Type 0 where
   pub head : StackHead
   pub turns : List Turn
@@ -74,6 +70,11 @@ IsVacant seats place = (f : ℕ) → seat_of seats f ≡ Some place → ⊥
 pub record IsPlace (held : HeldView) (place : ℕ) : Type 0 where
   pub driver : place < length held.filters
   pub pool : place < length held.filter_pools
+
+-- a place on the shelf has a driver and a pool, and no filter sits there
+pub record IsOnShelf (held : HeldView) (place : ℕ) : Type 0 where
+  pub is : IsPlace held place
+  pub vacant : IsVacant held.seats place
 
 -- the driver at a place
 abbrev pub filter_at : List FilterState → Option ℕ → FilterState

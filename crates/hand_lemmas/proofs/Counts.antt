@@ -13,9 +13,11 @@ use Rattle.rule_basics.proofs.Counts.{one_if, count_by-cons, count_by-append, co
 use Rattle.hand_lemmas.specs.Hands.{put_at}
 use Rattle.hand_lemmas.proofs.Modules.{same_self, same_is, at_each}
 
+-- the list is of the pool of this module
 abbrev pub is_owned : ModuleId → LiveList → Bool
 is_owned m l = same_module l.owner m
 
+-- each pool has as many live lists as its module owns
 abbrev pub Counted : List Thing → (ModuleId → PoolView) → Type 0
 Counted ts pools = (m : ModuleId) → live_count (pools m) ≡ count_by (is_owned m) (lists ts)
 

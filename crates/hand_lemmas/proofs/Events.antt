@@ -20,7 +20,8 @@ use Rattle.stack_rules.specs.Net.{Net, Modules, after, after_rows}
 use Rattle.stack_rules.specs.Outcome.{list_no, config_no}
 use Rattle.stack_rules.specs.Targets.{onward, homeward_by}
 use Rattle.stack_rules.specs.Deliveries.{how_for, echoes, echoed, delivered}
-use Rattle.hand_lemmas.specs.Hands.{Carried, Hands, Agrees, put_at, pooled, loosed}
+use Rattle.agenda_items.specs.declared.Carried.{Carried}
+use Rattle.hand_lemmas.specs.Hands.{Hands, Agrees, put_at, pooled, loosed}
 use Rattle.agenda_items.specs.declared.Carried.TheVariants.{List as a_list}
 use Rattle.hand_lemmas.proofs.Modules.{put_here, at_each}
 use Rattle.hand_lemmas.proofs.Rows.{given, turned_back, issued, wired, agrees_same}
@@ -32,6 +33,7 @@ use Rattle.hand_lemmas.proofs.Handed.{homeward_first, onward_loose}
 abbrev pub issue_row : ListView → ConfigNo → Row
 issue_row l config = row.Issue l.label.number l.label.owner config l.label.direction l.label.cancel l.label.origin l.frames
 
+-- a list was issued from the pool of its owner, and is on its way
 abbrev pub started : ListView → PoolView → Hands → Hands
 started l p h = record h { queue = h.queue ++ a_list l ∷ []; pools = put_at l.label.owner p h.pools }
 
@@ -138,6 +140,7 @@ pub record IsEcho (net : Net) (e : ListView) (n b : ℕ) (frames : List (List �
   pub direction : e.label.direction ≡ direction.Down
   pub cancel_none : issue_row e (config_no net.modules.config) ∷ onward net.modules e.label.number e.label.direction 0 ∷ [] ≡ echoed net n b frames
 
+-- the echoes of a delivery, one binding after the other
 pub data Echoes (net : Net) (frames : List (List ℕ)) : ℕ → List ℕ → Hands → Hands → Type 0 where
   ends : (n : ℕ) (h : Hands) → Echoes net frames n [] h h
   silent : (n b : ℕ) (bs : List ℕ) (h h' : Hands) → echoes net b ≡ false → Echoes net frames n bs h h' → Echoes net frames n (b ∷ bs) h h'

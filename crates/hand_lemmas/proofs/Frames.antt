@@ -1,5 +1,5 @@
 -- A frame program leaves as many frames as there were, each of at least 14 bytes and within the limit.
-use Rattle.std.proofs.Common.{◌≡◌, ℕ, ◌+◌, ◌-◌, ◌≤◌, ◌&&◌, ◌==◌, Bool, true, false, cond, List, [], ◌∷◌, ◌++◌, Option, Some, None, option_map, option_and_then, length, take, drop, nat_le, nat_lt, slice_set, length-set, refl, sym, ap, ◌∙◌, subst, arith, All}
+use Rattle.std.proofs.Common.{◌≡◌, ℕ, ◌+◌, ◌≤◌, ◌&&◌, ◌==◌, Bool, true, false, cond, List, [], ◌∷◌, ◌++◌, Option, Some, None, length, take, drop, nat_le, nat_lt, slice_set, length-set, refl, sym, ap, ◌∙◌, subst, arith, All}
 use Rattle.std.proofs.lemmas.Bool.Decides.{nat_tests}
 use Rattle.std.proofs.lemmas.Option.{same_Some, option_and_then_some}
 use Rattle.std.proofs.lemmas.List.{length-append, length-drop, length-take-le}
@@ -7,8 +7,7 @@ use Rattle.std.proofs.lemmas.List.Elements.{All-nil, All-cons, All-head, All-tai
 use Rattle.program_types.specs.declared.Action.{Action}
 use Rattle.program_types.specs.declared.Action.TheVariants as action
 use Rattle.program_types.specs.declared.Rule.{Rule}
-use Rattle.program_types.specs.Apply.{is_tagged, pair_at, tag_protocol, tag, pushed, popped, holds, act, apply_rule, apply, onto, applied}
-use Rattle.buffer_pools.specs.Views.{Fits}
+use Rattle.program_types.specs.Apply.{pair_at, tag_protocol, tag, pushed, popped, holds, act, apply_rule, apply, onto, applied}
 use Rattle.hand_lemmas.specs.Frames.{IsFrame, AreSized, IsAddressed, AreAddressed}
 
 -- a frame of another length within the bounds

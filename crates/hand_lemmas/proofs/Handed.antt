@@ -24,7 +24,8 @@ use Rattle.stack_rules.specs.Places.{position, is_full}
 use Rattle.stack_rules.specs.Targets.{onward, homeward_by}
 use Rattle.stack_rules.specs.Outcome.{list_no, config_no}
 use Rattle.stack_rules.specs.Handled.{made_of, given_by, filter_rows}
-use Rattle.hand_lemmas.specs.Hands.{Common, in_hand, in_state, Carried, Hands, Agrees, put_at, pooled, loosed}
+use Rattle.agenda_items.specs.declared.Carried.{Carried}
+use Rattle.hand_lemmas.specs.Hands.{Common, in_hand, in_state, Hands, Agrees, put_at, pooled, loosed}
 use Rattle.agenda_items.specs.declared.Carried.TheVariants.{List as a_list}
 use Rattle.hand_lemmas.proofs.Rows.{given, turned_back, issued}
 use Rattle.hand_lemmas.proofs.Steps.{passed_first, kept_first, passed_loose}
@@ -102,30 +103,34 @@ pub record IsCloneOf (net : Net) (a : Attached) (l c : ListView) (frames : List 
   pub frames_are : c.frames ≡ frames
 
 -- what a filter did with the list that it was given: exactly one of these, by what its program makes of the frames
-pub data Did (net : Net) (a : Attached) (x : LiveList) (keeps : Bool) (l : ListView) (queue : List Carried) (h h' : Hands) : Type 0 where
-  dropped : made_of net a x ≡ None → h' ≡ record h { queue = queue ++ a_list l ∷ [] } → Did net a x keeps l queue h h'
+pub data FilterDid (net : Net) (a : Attached) (x : LiveList) (keeps : Bool) (l : ListView) (queue : List Carried) (h h' : Hands) : Type 0 where
+  dropped : made_of net a x ≡ None → h' ≡ record h { queue = queue ++ a_list l ∷ [] } → FilterDid net a x keeps l queue h h'
   passed_on : (frames : List (List ℕ)) → made_of net a x ≡ Some frames → same_frames frames x.frames ≡ true → (keeps && is_hold a.kind) ≡ false
-      → h' ≡ record h { queue = queue ++ a_list l ∷ [] } → Did net a x keeps l queue h h'
+      → h' ≡ record h { queue = queue ++ a_list l ∷ [] } → FilterDid net a x keeps l queue h h'
   held : (frames : List (List ℕ)) → made_of net a x ≡ Some frames → same_frames frames x.frames ≡ true → (keeps && is_hold a.kind) ≡ true
-      → h' ≡ record h { queue = queue; kept = put_at (Filter a.filter) (h.kept (Filter a.filter) ++ l ∷ []) h.kept } → Did net a x keeps l queue h h'
+      → h' ≡ record h { queue = queue; kept = put_at (Filter a.filter) (h.kept (Filter a.filter) ++ l ∷ []) h.kept } → FilterDid net a x keeps l queue h h'
   lacked : (frames : List (List ℕ)) → made_of net a x ≡ Some frames → same_frames frames x.frames ≡ false → is_full net (Filter a.filter) ≡ true
-      → h' ≡ record h { queue = queue ++ a_list l ∷ [] } → Did net a x keeps l queue h h'
+      → h' ≡ record h { queue = queue ++ a_list l ∷ [] } → FilterDid net a x keeps l queue h h'
   cloned : (frames : List (List ℕ)) (c : ListView) (p : PoolView) → made_of net a x ≡ Some frames → same_frames frames x.frames ≡ false → is_full net (Filter a.filter) ≡ false
-      → IsCloneOf net a l c frames → Issues (h.pools c.label.owner) c p → h' ≡ cloned_hands l c (Filter a.filter) p queue h → Did net a x keeps l queue h h'
+      → IsCloneOf net a l c frames → Issues (h.pools c.label.owner) c p → h' ≡ cloned_hands l c (Filter a.filter) p queue h → FilterDid net a x keeps l queue h h'
 
 -- the rows of a list that a filter is given, by the list in hand
 abbrev given_row : Common → ModuleId → Row
 given_row c m = row.Give c.list m (given_by c.direction)
 
+-- the list is passed on
 abbrev pub on_rows : Net → Common → ModuleId → List Row
 on_rows net c m = given_row c m ∷ onward net.modules c.list c.direction (position net.modules.order m) ∷ []
 
+-- the list is turned back
 abbrev pub back_rows : Net → Common → ModuleId → ListStatus → List Row
 back_rows net c m status = given_row c m ∷ row.TurnBack c.list m status ∷ homeward_by net.modules c.list c.owner c.direction (position net.modules.order m) status ∷ []
 
+-- the list is kept
 abbrev pub keep_rows : Common → ModuleId → List Row
 keep_rows c m = given_row c m ∷ row.Keep c.list m ∷ []
 
+-- a clone is sent in place of the list
 abbrev pub clone_rows : Net → Common → ModuleId → List (List ℕ) → List Row
 clone_rows net c m frames =
     given_row c m ∷ row.Issue (list_no net.next.list) m (config_no net.modules.config) c.direction c.cancel (origin.Clone c.list) frames
@@ -161,7 +166,7 @@ made_is net a l c frames is = rw (is.number, is.owner, is.config, is.direction, 
 
 -- A list is given to a filter, whatever it is: the rows are those of the rules, and hands and state agree.
 pub filter_did : (net : Net) (a : Attached) (x : LiveList) (keeping : Bool) (l : ListView) (queue : List Carried) (h h' : Hands) → Agrees net h → h.queue ≡ a_list l ∷ queue → in_state x ≡ in_hand l
-    → Did net a x keeping l queue h h' → Agrees (after_rows net (filter_rows net a x keeping)) h'
+    → FilterDid net a x keeping l queue h h' → Agrees (after_rows net (filter_rows net a x keeping)) h'
 filter_did net a x keeping l queue h h' g e same (dropped made is) =
     subst (λ rows. Agrees (after_rows net rows) h') (sym (none_rows net a x keeping made ∙ ap (λ c. back_rows net c (Filter a.filter) Dropped) same))
     (subst (Agrees (after_rows net (back_rows net (in_hand l) (Filter a.filter) Dropped))) (sym is) (turns_back net l (Filter a.filter) (given_by l.label.direction) _ Dropped h queue g e))

@@ -5,7 +5,8 @@ use Rattle.ndis_base.specs.declared.ModuleId.{ModuleId}
 use Rattle.buffer_pools.specs.Views.{ListView, PoolView, Live, IsOf, Issues, Frees, live_at}
 use Rattle.buffer_pools.proofs.Lives.{is_of-issued, is_of-freed}
 use Rattle.stack_rules.specs.declared.Thing.{Thing}
-use Rattle.hand_lemmas.specs.Hands.{Carried, Hands, IsHoused, IsCarriedHome, out, carries, taken, put_at, pooled}
+use Rattle.agenda_items.specs.declared.Carried.{Carried}
+use Rattle.hand_lemmas.specs.Hands.{Hands, IsHoused, IsCarriedHome, out, carries, taken, put_at, pooled}
 use Rattle.agenda_items.specs.declared.Carried.TheVariants.{List as a_list, Status as a_status, Answer as an_answer}
 use Rattle.hand_lemmas.proofs.Modules.{put_here, at_each}
 use Rattle.hand_lemmas.proofs.Shows.{Shows}

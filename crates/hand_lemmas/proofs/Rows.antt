@@ -30,12 +30,13 @@ use Rattle.stack_rules.specs.declared.StatusAway.{StatusAway}
 use Rattle.stack_rules.specs.declared.Stand.TheVariants as stand
 use Rattle.stack_rules.specs.declared.Thing.{Thing}
 use Rattle.stack_rules.specs.declared.Thing.TheVariants as thing
-use Rattle.stack_rules.specs.Net.{Net, lists, list_of, after, without, at_end, as_passed, as_kept, had_by, taken_by, request_of, things_after_done, after_answer, is_answer_to}
+use Rattle.stack_rules.specs.Net.{Net, lists, after, without, at_end, as_passed, as_kept, had_by, taken_by, request_of, things_after_done, after_answer, is_answer_to}
 use Rattle.stack_rules.specs.Net as net_of
 use Rattle.stack_rules.specs.Places.{owned}
 use Rattle.rule_basics.specs.Numbers.{IsNumbered}
 use Rattle.rule_basics.proofs.Numbered.{numbered_after, lists-without_status, lists-status, lists-things_done}
-use Rattle.hand_lemmas.specs.Hands.{Common, in_hand, Carried, carried, Hands, IsHoused, IsCarriedHome, Agrees, IsMine, IsSame, taken, queued, loosed, put_at, kept_at, pooled, without_status, without_answer, answered_to, request_done}
+use Rattle.agenda_items.specs.declared.Carried.{Carried}
+use Rattle.hand_lemmas.specs.Hands.{Common, in_hand, carried, Hands, IsHoused, IsCarriedHome, Agrees, IsMine, IsSame, taken, queued, loosed, put_at, kept_at, pooled, without_status, without_answer, answered_to, request_done}
 use Rattle.agenda_items.specs.declared.Carried.TheVariants.{List as a_list, Status as a_status, Answer as an_answer}
 use Rattle.hand_lemmas.proofs.Modules.{at_each}
 use Rattle.hand_lemmas.proofs.Shows.{Shows, IsQuiet, shows_taken, shows_queued, shows_kept, shows_loosed, shows_changed, shows_unstatused, shows_unanswered, shows_status_pushed, shows_answer_pushed}

@@ -17,7 +17,8 @@ use Rattle.stack_rules.specs.Net.{lists, without, after_change, with_list, is_li
 use Rattle.stack_rules.specs.Places.{is_away, is_passed, is_kept_by}
 use Rattle.rule_basics.specs.Live.{touched, retouched}
 use Rattle.rule_basics.proofs.Lists.{lists-append, lists-without, lists-changed}
-use Rattle.hand_lemmas.specs.Hands.{Common, in_hand, in_state, Carried, Seen, carried, seen, is_loose, Hands, IsHoused, IsCarriedHome, out, carries, carries_status, carries_answer, taken, queued, loosed, kept_at, without_status, without_answer}
+use Rattle.agenda_items.specs.declared.Carried.{Carried}
+use Rattle.hand_lemmas.specs.Hands.{Common, in_hand, in_state, Seen, carried, seen, is_loose, Hands, IsHoused, IsCarriedHome, out, carries, carries_status, carries_answer, taken, queued, loosed, kept_at, without_status, without_answer}
 use Rattle.agenda_items.specs.declared.Carried.TheVariants.{List as a_list, Status as a_status, Answer as an_answer}
 use Rattle.hand_lemmas.specs.Hands.Seen.{see_list, see_status, see_answer}
 use Rattle.hand_lemmas.proofs.Filters.{filters_swap, filters_match, push_yes, push_no}
@@ -38,6 +39,7 @@ pub record Shows (ts : List Thing) (h : Hands) : Type 0 where
 
 -- A list is taken out.
 
+-- a list of this number
 abbrev shows_list : ℕ → Seen → Bool
 shows_list n (see_list c) = c.list.0 == n
 shows_list n (see_status s) = false
@@ -158,6 +160,7 @@ shows_loosed ts h y l s is same housed = record {
 
 -- A list changes in its place, and nothing of the change is seen in hand.
 
+-- a change of a live list that shows nothing in hand
 pub record IsQuiet (f : LiveList → LiveList) : Type 0 where
   pub same : (l : LiveList) → in_state (f l) ≡ in_state l
   pub stand : (l : LiveList) → (f l).stand ≡ l.stand
@@ -213,11 +216,13 @@ shows_changed n f quiet ts h s = record {
 
 -- Statuses and answers: the lists stay.
 
+-- a status of this number
 abbrev shows_status : ℕ → Seen → Bool
 shows_status n (see_status s) = s.number.0 == n
 shows_status n (see_list c) = false
 shows_status n (see_answer a) = false
 
+-- an answer to this request
 abbrev shows_answer : ℕ → Seen → Bool
 shows_answer parent (see_answer a) = a.parent.0 == parent
 shows_answer parent (see_list c) = false

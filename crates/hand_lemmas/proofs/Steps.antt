@@ -22,7 +22,8 @@ use Rattle.stack_rules.specs.Places.{is_away, is_passed, is_kept_by}
 use Rattle.rule_basics.specs.Live.{IsApart, others}
 use Rattle.rule_basics.proofs.Lists.{lists-without}
 use Rattle.rule_basics.proofs.Counts.{one_if, count_by-others}
-use Rattle.hand_lemmas.specs.Hands.{in_hand, in_state, Carried, carried, seen, is_loose, Hands, Agrees, out, carries, taken, queued, put_at, kept_at, pooled}
+use Rattle.agenda_items.specs.declared.Carried.{Carried}
+use Rattle.hand_lemmas.specs.Hands.{in_hand, in_state, carried, seen, is_loose, Hands, Agrees, out, carries, taken, queued, put_at, kept_at, pooled}
 use Rattle.agenda_items.specs.declared.Carried.TheVariants.{List as a_list}
 use Rattle.hand_lemmas.proofs.Modules.{same_is, at_each}
 use Rattle.hand_lemmas.proofs.Shows.{placed, shows_taken, kept_elsewhere}

@@ -17,7 +17,8 @@ use Rattle.stack_rules.specs.Places.{is_away, is_passed, is_kept_by, agenda, age
 use Rattle.rule_basics.specs.Live.{IsApart, others}
 use Rattle.rule_basics.proofs.Lists.{lists-without}
 use Rattle.rule_basics.proofs.Counts.{one_if, count_by-others}
-use Rattle.hand_lemmas.specs.Hands.{Common, in_hand, in_state, Carried, carried, seen, is_loose, Hands, IsHoused, IsCarriedHome, Agrees, IsMine, out, carries, taken}
+use Rattle.agenda_items.specs.declared.Carried.{Carried}
+use Rattle.hand_lemmas.specs.Hands.{Common, in_hand, in_state, carried, seen, is_loose, Hands, IsHoused, IsCarriedHome, Agrees, IsMine, out, carries, taken}
 use Rattle.agenda_items.specs.declared.Carried.TheVariants.{List as a_list, Status as a_status, Answer as an_answer}
 use Rattle.hand_lemmas.specs.Hands.Seen.{see_list, see_status, see_answer}
 use Rattle.hand_lemmas.proofs.Shows.{placed, shows_taken, passed_not_loose, passed_not_kept}
@@ -126,6 +127,7 @@ next_answer net h x queue a e =
 
 -- A list anywhere among those that a module keeps is the state's list at the same place.
 
+-- a list in hand, among those before and after it
 record IsAmong (ls : List LiveList) (l : ListView) (front back : List ListView) : Type 0 where
   pub before : List LiveList
   pub x : LiveList
@@ -158,6 +160,7 @@ housed_in : (pools : ModuleId → PoolView) (front : List ListView) (l : ListVie
 housed_in pools [] l back h = All-head (IsHoused pools) l back h
 housed_in pools (o ∷ front) l back h = housed_in pools front l back (All-tail (IsHoused pools) o (front ++ l ∷ back) h)
 
+-- a list that a module keeps
 pub record IsKeptThere (net : Net) (h : Hands) (m : ModuleId) (l : ListView) (front back : List ListView) : Type 0 where
   pub before : List LiveList
   pub after : List LiveList

@@ -10,7 +10,7 @@ use Rattle.ndis_base.specs.declared.OidNo.{OidNo}
 use Rattle.ndis_base.specs.declared.OidStatus.{OidStatus}
 use Rattle.stack_rules.specs.declared.Request.{Request}
 use Rattle.buffer_pools.specs.Views.{ListView, PoolView, IsOf, live_count}
-use Rattle.agenda_items.specs.declared.Carried.{Carried as Borne}
+use Rattle.agenda_items.specs.declared.Carried.{Carried}
 use Rattle.agenda_items.specs.declared.Carried.TheVariants.{List as a_list, Status as a_status, Answer as an_answer}
 use Rattle.stack_rules.specs.declared.Stand.{Stand}
 use Rattle.stack_rules.specs.declared.Stand.TheVariants as stand
@@ -33,15 +33,13 @@ pub record Common : Type 0 where
   pub origin : Origin
   pub frames : List (List ℕ)
 
+-- that of a list in hand
 abbrev pub in_hand : ListView → Common
 in_hand l = record { list = l.label.number; owner = l.label.owner; direction = l.label.direction; cancel = l.label.cancel; origin = l.label.origin; frames = l.frames }
 
+-- that of a live list
 abbrev pub in_state : LiveList → Common
 in_state l = record { list = l.list; owner = l.owner; direction = l.direction; cancel = l.cancel; origin = l.origin; frames = l.frames }
-
--- something on its way, in hand
-abbrev pub Carried : Type 0
-Carried = Borne
 
 -- what both sides show of something on its way
 pub data Seen : Type 0 where
@@ -49,11 +47,13 @@ pub data Seen : Type 0 where
   see_status : StatusAway → Seen
   see_answer : Answered → Seen
 
+-- what something on its way shows, in hand
 abbrev pub carried : Carried → Seen
 carried (a_list l) = see_list (in_hand l)
 carried (a_status s) = see_status s
 carried (an_answer a) = see_answer a
 
+-- what it shows, in the state
 abbrev pub seen : Thing → Seen
 seen (thing.List l) = see_list (in_state l)
 seen (thing.Status s) = see_status s
@@ -64,6 +64,7 @@ abbrev pub is_loose : Stand → Bool
 is_loose stand.Unplaced = true
 is_loose _ = false
 
+-- the live lists that stand nowhere yet
 abbrev pub loose_lists : Net → List LiveList
 loose_lists net = filter (λ l. is_loose l.stand) (lists net.things)
 
@@ -78,6 +79,7 @@ pub record Hands : Type 0 where
 abbrev pub IsHoused : (ModuleId → PoolView) → ListView → Type 0
 IsHoused pools l = IsOf (pools l.label.owner) l
 
+-- so is a list that is on its way; statuses and answers are of no pool
 abbrev pub IsCarriedHome : (ModuleId → PoolView) → Carried → Type 0
 IsCarriedHome pools (a_list l) = IsHoused pools l
 IsCarriedHome pools (a_status s) = Unit {0}
@@ -101,16 +103,19 @@ pub record Agrees (net : Net) (h : Hands) : Type 0 where
 abbrev pub out : ℕ → List ListView → List ListView
 out n ls = filter (λ l. not (l.label.number.0 == n)) ls
 
+-- the list of this number
 abbrev pub carries : ℕ → Carried → Bool
 carries n (a_list l) = l.label.number.0 == n
 carries n (a_status s) = false
 carries n (an_answer a) = false
 
+-- the status of this number
 abbrev pub carries_status : ℕ → Carried → Bool
 carries_status n (a_status s) = s.number.0 == n
 carries_status n (a_list l) = false
 carries_status n (an_answer a) = false
 
+-- the answer to this request
 abbrev pub carries_answer : ℕ → Carried → Bool
 carries_answer parent (an_answer a) = a.parent.0 == parent
 carries_answer parent (a_list l) = false
@@ -120,9 +125,11 @@ carries_answer parent (a_status s) = false
 abbrev pub taken : ℕ → Hands → Hands
 taken n h = record h { queue = filter (λ c. not (carries n c)) h.queue; loose = out n h.loose; kept = λ m. out n (h.kept m) }
 
+-- one more thing is on its way
 abbrev pub queued : Carried → Hands → Hands
 queued c h = record h { queue = h.queue ++ c ∷ [] }
 
+-- one more list was issued
 abbrev pub loosed : ListView → Hands → Hands
 loosed l h = record h { loose = h.loose ++ l ∷ [] }
 
@@ -130,15 +137,19 @@ loosed l h = record h { loose = h.loose ++ l ∷ [] }
 abbrev pub put_at : {X : Type 0} → ModuleId → X → (ModuleId → X) → ModuleId → X
 put_at m x f k = if same_module k m then x else f k
 
+-- a module keeps one more list
 abbrev pub kept_at : ModuleId → ListView → Hands → Hands
 kept_at m l h = record h { kept = put_at m (h.kept m ++ l ∷ []) h.kept }
 
+-- a module has another pool
 abbrev pub pooled : ModuleId → PoolView → Hands → Hands
 pooled m p h = record h { pools = put_at m p h.pools }
 
+-- the status of this number is no longer on its way
 abbrev pub without_status : ℕ → Hands → Hands
 without_status n h = record h { queue = filter (λ c. not (carries_status n c)) h.queue }
 
+-- the answer to this request is no longer on its way
 abbrev pub without_answer : ℕ → Hands → Hands
 without_answer parent h = record h { queue = filter (λ c. not (carries_answer parent c)) h.queue }
 
@@ -154,6 +165,7 @@ abbrev pub answered_to : Option OidNo → OidNo → OidStatus → List ℕ → H
 answered_to None request status value h = h
 answered_to (Some parent) request status value h = queued (an_answer (record { request = request; parent = parent; status = status; value = value })) h
 
+-- what is in hand once a request is done
 abbrev pub request_done : Option Request → OidNo → OidStatus → List ℕ → Hands → Hands
 request_done None request status value h = h
 request_done (Some r) request status value h = answered_to r.parent request status value (without_answer request.0 h)
@@ -170,6 +182,7 @@ abbrev pub crossed_at : Option LiveList → Bool
 crossed_at None = false
 crossed_at (Some l) = is_crossed l.crossed
 
+-- the list of this number is crossed, or a clone of it is live
 abbrev pub waits_at : Net → ℕ → Bool
 waits_at net n = crossed_at (list_of n (lists net.things)) || has_clone net n
 
