@@ -1,5 +1,5 @@
 //! Calls written as JSON.
-ghost use Rattle.std.specs.Prelude.{◌≡◌, ◌∷◌, map, decimal, string_bytes, IfOk, Some, None};
+ghost use Rattle.std.specs.Prelude.{◌≡◌, ◌∷◌, map, decimal, string_bytes, IfOk};
 ghost use Rattle.serde_json.specs.View.{view};
 ghost use Rattle.program_forms.specs.Written.{hex_data};
 ghost use Rattle.script_types.specs.declared.CallKind.TheVariants as ask;
@@ -73,15 +73,15 @@ fn frame_values(alloc: Global, frames: &[Frame]) -> Result<Vec<Value>, AllocErro
     Ok(values)
 }
 
-fn plain_value(alloc: Global, call: &Call, word: CallWord) -> Result<Value, OutOfMemory>
+fn plain_value(alloc: Global, call: &Call, word: CallWord) -> Result<Value, AllocError>
     ensures { IfOk result (λ v. view v ≡ plain_data call.now word) }
 {
-    Ok(json!(in alloc; {
+    json!(in alloc; {
         "call": name_of_word(word),
         "lane": call.lane.0,
         "pump": call.pump,
         "stack": call.stack
-    })?)
+    })
 }
 
 fn bringing_value(
@@ -89,57 +89,17 @@ fn bringing_value(
     call: &Call,
     word: CallWord,
     frames: &[Frame],
-) -> Result<Value, OutOfMemory>
+) -> Result<Value, AllocError>
     ensures { IfOk result (λ v. view v ≡ bringing_data call.now word frames.now) }
 {
     let values = frame_values(alloc, frames)?;
-    Ok(json!(in alloc; {
+    json!(in alloc; {
         "call": name_of_word(word),
         "frames": Value::Array(values),
         "lane": call.lane.0,
         "pump": call.pump,
         "stack": call.stack
-    })?)
-}
-
-fn send_with_id(
-    alloc: Global,
-    call: &Call,
-    binding: u32,
-    id: u32,
-    frames: &[Frame],
-) -> Result<Value, OutOfMemory>
-    ensures { IfOk result (λ v. view v ≡ send_data call.now binding (Some id) frames.now) }
-{
-    let values = frame_values(alloc, frames)?;
-    Ok(json!(in alloc; {
-        "binding": binding,
-        "call": name_of_word(CallWord::Send),
-        "cancel": id,
-        "frames": Value::Array(values),
-        "lane": call.lane.0,
-        "pump": call.pump,
-        "stack": call.stack
-    })?)
-}
-
-fn send_without_id(
-    alloc: Global,
-    call: &Call,
-    binding: u32,
-    frames: &[Frame],
-) -> Result<Value, OutOfMemory>
-    ensures { IfOk result (λ v. view v ≡ send_data call.now binding None frames.now) }
-{
-    let values = frame_values(alloc, frames)?;
-    Ok(json!(in alloc; {
-        "binding": binding,
-        "call": name_of_word(CallWord::Send),
-        "frames": Value::Array(values),
-        "lane": call.lane.0,
-        "pump": call.pump,
-        "stack": call.stack
-    })?)
+    })
 }
 
 fn send_value(
@@ -148,12 +108,28 @@ fn send_value(
     binding: u32,
     cancel: Option<u32>,
     frames: &[Frame],
-) -> Result<Value, OutOfMemory>
+) -> Result<Value, AllocError>
     ensures { IfOk result (λ v. view v ≡ send_data call.now binding cancel frames.now) }
 {
+    let values = frame_values(alloc, frames)?;
     match cancel {
-        Some(id) => send_with_id(alloc, call, binding, id, frames),
-        None => send_without_id(alloc, call, binding, frames),
+        Some(id) => json!(in alloc; {
+            "binding": binding,
+            "call": name_of_word(CallWord::Send),
+            "cancel": id,
+            "frames": Value::Array(values),
+            "lane": call.lane.0,
+            "pump": call.pump,
+            "stack": call.stack
+        }),
+        None => json!(in alloc; {
+            "binding": binding,
+            "call": name_of_word(CallWord::Send),
+            "frames": Value::Array(values),
+            "lane": call.lane.0,
+            "pump": call.pump,
+            "stack": call.stack
+        }),
     }
 }
 
@@ -162,29 +138,29 @@ fn give_back_value(
     call: &Call,
     binding: u32,
     list: ListNo,
-) -> Result<Value, OutOfMemory>
+) -> Result<Value, AllocError>
     ensures { IfOk result (λ v. view v ≡ kind_data call.now (ask.GiveBack binding list)) }
 {
-    Ok(json!(in alloc; {
+    json!(in alloc; {
         "binding": binding,
         "call": name_of_word(CallWord::GiveBack),
         "lane": call.lane.0,
         "list": list.0,
         "pump": call.pump,
         "stack": call.stack
-    })?)
+    })
 }
 
-fn cancel_value(alloc: Global, call: &Call, id: u32) -> Result<Value, OutOfMemory>
+fn cancel_value(alloc: Global, call: &Call, id: u32) -> Result<Value, AllocError>
     ensures { IfOk result (λ v. view v ≡ kind_data call.now (ask.Cancel id)) }
 {
-    Ok(json!(in alloc; {
+    json!(in alloc; {
         "call": name_of_word(CallWord::Cancel),
         "id": id,
         "lane": call.lane.0,
         "pump": call.pump,
         "stack": call.stack
-    })?)
+    })
 }
 
 fn ask_value(
@@ -194,12 +170,12 @@ fn ask_value(
     kind: OidKind,
     code: u32,
     value: &OidValue,
-) -> Result<Value, OutOfMemory>
+) -> Result<Value, AllocError>
     ensures { IfOk result (λ v. view v ≡ kind_data call.now (ask.Ask binding kind code value.now)) }
 {
     let digits = hex::encode(alloc, &code.to_be_bytes())?;
     let bytes = hex::encode(alloc, value.bytes())?;
-    Ok(json!(in alloc; {
+    json!(in alloc; {
         "binding": binding,
         "call": name_of_word(CallWord::Ask),
         "code": digits,
@@ -208,19 +184,19 @@ fn ask_value(
         "pump": call.pump,
         "stack": call.stack,
         "value": bytes
-    })?)
+    })
 }
 
-fn status_value(alloc: Global, call: &Call, name: StatusName) -> Result<Value, OutOfMemory>
+fn status_value(alloc: Global, call: &Call, name: StatusName) -> Result<Value, AllocError>
     ensures { IfOk result (λ v. view v ≡ kind_data call.now (ask.Status name)) }
 {
-    Ok(json!(in alloc; {
+    json!(in alloc; {
         "call": name_of_word(CallWord::Status),
         "lane": call.lane.0,
         "name": name_of_status_name(name),
         "pump": call.pump,
         "stack": call.stack
-    })?)
+    })
 }
 
 fn insert_object(
@@ -228,17 +204,17 @@ fn insert_object(
     call: &Call,
     position: u8,
     filter: Value,
-) -> Result<Value, OutOfMemory>
+) -> Result<Value, AllocError>
     ensures { IfOk result (λ v. view v ≡ insert_data call.now position (view filter)) }
 {
-    Ok(json!(in alloc; {
+    json!(in alloc; {
         "call": name_of_word(CallWord::Insert),
         "filter": filter,
         "lane": call.lane.0,
         "position": position,
         "pump": call.pump,
         "stack": call.stack
-    })?)
+    })
 }
 
 fn insert_value(
@@ -251,20 +227,20 @@ fn insert_value(
     ensures { IfOk result (λ v. view v ≡ kind_data call.now (ask.Insert position kind setup.now)) }
 {
     let filter = filter_value(alloc, kind, setup)?;
-    insert_object(alloc, call, position, filter)
+    Ok(insert_object(alloc, call, position, filter)?)
 }
 
-fn remove_value(alloc: Global, call: &Call, filter: u64) -> Result<Value, OutOfMemory>
+fn remove_value(alloc: Global, call: &Call, filter: u64) -> Result<Value, AllocError>
     ensures { IfOk result (λ v. view v ≡ kind_data call.now (ask.Remove filter)) }
 {
     let name = filter_name(alloc, filter)?;
-    Ok(json!(in alloc; {
+    json!(in alloc; {
         "call": name_of_word(CallWord::Remove),
         "lane": call.lane.0,
         "module": name,
         "pump": call.pump,
         "stack": call.stack
-    })?)
+    })
 }
 
 fn replace_object(
@@ -272,18 +248,18 @@ fn replace_object(
     call: &Call,
     filter: u64,
     replacement: Value,
-) -> Result<Value, OutOfMemory>
+) -> Result<Value, AllocError>
     ensures { IfOk result (λ v. view v ≡ replace_data call.now filter (view replacement)) }
 {
     let name = filter_name(alloc, filter)?;
-    Ok(json!(in alloc; {
+    json!(in alloc; {
         "call": name_of_word(CallWord::Replace),
         "filter": replacement,
         "lane": call.lane.0,
         "module": name,
         "pump": call.pump,
         "stack": call.stack
-    })?)
+    })
 }
 
 fn replace_value(
@@ -296,19 +272,19 @@ fn replace_value(
     ensures { IfOk result (λ v. view v ≡ kind_data call.now (ask.Replace filter kind setup.now)) }
 {
     let replacement = filter_value(alloc, kind, setup)?;
-    replace_object(alloc, call, filter, replacement)
+    Ok(replace_object(alloc, call, filter, replacement)?)
 }
 
-fn relay_value(alloc: Global, call: &Call, way: Way) -> Result<Value, OutOfMemory>
+fn relay_value(alloc: Global, call: &Call, way: Way) -> Result<Value, AllocError>
     ensures { IfOk result (λ v. view v ≡ kind_data call.now (ask.Relay way)) }
 {
-    Ok(json!(in alloc; {
+    json!(in alloc; {
         "call": name_of_word(CallWord::Relay),
         "lane": call.lane.0,
         "pump": call.pump,
         "stack": call.stack,
         "way": name_of_way(way)
-    })?)
+    })
 }
 
 fn call_value(alloc: Global, call: &Call) -> Result<Value, OutOfMemory>
@@ -319,41 +295,46 @@ fn call_value(alloc: Global, call: &Call) -> Result<Value, OutOfMemory>
             binding,
             cancel,
             frames,
-        } => send_value(alloc, call, *binding, *cancel, frames.items()),
-        CallKind::Indicate { frames } => bringing_value(
+        } => Ok(send_value(alloc, call, *binding, *cancel, frames.items())?),
+        CallKind::Indicate { frames } => Ok(bringing_value(
             alloc,
             call,
             CallWord::Indicate,
             frames.items(),
-        ),
-        CallKind::Lend { frames } => bringing_value(alloc, call, CallWord::Lend, frames.items()),
-        CallKind::GiveBack { binding, list } => give_back_value(alloc, call, *binding, *list),
-        CallKind::Cancel { id } => cancel_value(alloc, call, *id),
+        )?),
+        CallKind::Lend { frames } => Ok(bringing_value(
+            alloc,
+            call,
+            CallWord::Lend,
+            frames.items(),
+        )?),
+        CallKind::GiveBack { binding, list } => Ok(give_back_value(alloc, call, *binding, *list)?),
+        CallKind::Cancel { id } => Ok(cancel_value(alloc, call, *id)?),
         CallKind::Ask {
             binding,
             kind,
             code,
             value,
-        } => ask_value(alloc, call, *binding, *kind, *code, value),
-        CallKind::Status { name } => status_value(alloc, call, *name),
-        CallKind::Transmit => plain_value(alloc, call, CallWord::Transmit),
-        CallKind::Pump => plain_value(alloc, call, CallWord::Pump),
-        CallKind::Drain => plain_value(alloc, call, CallWord::Drain),
-        CallKind::BeginPause => plain_value(alloc, call, CallWord::BeginPause),
-        CallKind::PauseNext => plain_value(alloc, call, CallWord::PauseNext),
-        CallKind::RestartNext => plain_value(alloc, call, CallWord::RestartNext),
+        } => Ok(ask_value(alloc, call, *binding, *kind, *code, value)?),
+        CallKind::Status { name } => Ok(status_value(alloc, call, *name)?),
+        CallKind::Transmit => Ok(plain_value(alloc, call, CallWord::Transmit)?),
+        CallKind::Pump => Ok(plain_value(alloc, call, CallWord::Pump)?),
+        CallKind::Drain => Ok(plain_value(alloc, call, CallWord::Drain)?),
+        CallKind::BeginPause => Ok(plain_value(alloc, call, CallWord::BeginPause)?),
+        CallKind::PauseNext => Ok(plain_value(alloc, call, CallWord::PauseNext)?),
+        CallKind::RestartNext => Ok(plain_value(alloc, call, CallWord::RestartNext)?),
         CallKind::Insert {
             position,
             kind,
             setup,
         } => insert_value(alloc, call, *position, *kind, setup),
-        CallKind::Remove { filter } => remove_value(alloc, call, *filter),
+        CallKind::Remove { filter } => Ok(remove_value(alloc, call, *filter)?),
         CallKind::Replace {
             filter,
             kind,
             setup,
         } => replace_value(alloc, call, *filter, *kind, setup),
-        CallKind::Relay { way } => relay_value(alloc, call, *way),
+        CallKind::Relay { way } => Ok(relay_value(alloc, call, *way)?),
     }
 }
 
