@@ -9,8 +9,9 @@ use journal_types::{Event, Frames, Refusal, Reply, Setup};
 use journal_words::page::Page;
 use journal_words::programs::push_program;
 use ndis_base::{
-    CrossNo, FilterKind, ListNo, ListStatus, OidKind, OidValue, OutOfMemory, Phase, StatusName, Who,
-    name_of_filter_kind, name_of_list_status, name_of_oid_kind, name_of_phase, name_of_status_name,
+    CrossNo, FilterKind, ListNo, ListStatus, OidKind, OidValue, OutOfMemory, Phase, StatusName,
+    Who, name_of_filter_kind, name_of_list_status, name_of_oid_kind, name_of_phase,
+    name_of_status_name,
 };
 
 fn push_counted(page: &mut Page, text: &str, number: u64) -> Result<(), OutOfMemory>
@@ -148,11 +149,7 @@ fn push_cross_put(
     page.frames(frames)
 }
 
-fn push_cross_done(
-    page: &mut Page,
-    message: CrossNo,
-    status: ListStatus,
-) -> Result<(), OutOfMemory>
+fn push_cross_done(page: &mut Page, message: CrossNo, status: ListStatus) -> Result<(), OutOfMemory>
     ensures { OnOk result (page.new ≡ spaced page.old (event_words (event.CrossDone message status))) }
 {
     page.word("cross_done")?;

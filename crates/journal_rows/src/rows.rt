@@ -8,8 +8,8 @@ ghost use Rattle.journal_rows.specs.Rows.{handler_text, how_text, way_text, issu
 use journal_types::{FilterList, Frames, Handler, How, OutWay, PassWay, PhaseOf, Row, Target, Way};
 use journal_words::page::Page;
 use ndis_base::{
-    ConfigNo, CrossNo, Direction, ListNo, ListStatus, ModuleId, OidKind, OidNo, OidStatus, OidValue,
-    Origin, OutOfMemory, StatusName, StatusNo, name_of_direction, name_of_list_status,
+    ConfigNo, CrossNo, Direction, ListNo, ListStatus, ModuleId, OidKind, OidNo, OidStatus,
+    OidValue, Origin, OutOfMemory, StatusName, StatusNo, name_of_direction, name_of_list_status,
     name_of_oid_kind, name_of_oid_status, name_of_phase, name_of_state, name_of_status_name,
 };
 
@@ -184,7 +184,12 @@ fn push_issue(
     push_issued(page, origin, frames)
 }
 
-fn push_give(page: &mut Page, list: ListNo, module: ModuleId, handler: Handler) -> Result<(), OutOfMemory>
+fn push_give(
+    page: &mut Page,
+    list: ListNo,
+    module: ModuleId,
+    handler: Handler,
+) -> Result<(), OutOfMemory>
     ensures { OnOk result (page.new ≡ spaced page.old (row_words (row.Give list «module» handler))) }
 {
     push_list(page, "give", list)?;
@@ -206,7 +211,12 @@ fn push_keep(page: &mut Page, list: ListNo, module: ModuleId) -> Result<(), OutO
     page.module(module)
 }
 
-fn push_turn_back(page: &mut Page, list: ListNo, module: ModuleId, status: ListStatus) -> Result<(), OutOfMemory>
+fn push_turn_back(
+    page: &mut Page,
+    list: ListNo,
+    module: ModuleId,
+    status: ListStatus,
+) -> Result<(), OutOfMemory>
     ensures { OnOk result (page.new ≡ spaced page.old (row_words (row.TurnBack list «module» status))) }
 {
     push_list(page, "turnback", list)?;
@@ -214,7 +224,12 @@ fn push_turn_back(page: &mut Page, list: ListNo, module: ModuleId, status: ListS
     page.word(name_of_list_status(status))
 }
 
-fn push_home(page: &mut Page, list: ListNo, owner: ModuleId, status: ListStatus) -> Result<(), OutOfMemory>
+fn push_home(
+    page: &mut Page,
+    list: ListNo,
+    owner: ModuleId,
+    status: ListStatus,
+) -> Result<(), OutOfMemory>
     ensures { OnOk result (page.new ≡ spaced page.old (row_words (row.Home list owner status))) }
 {
     push_list(page, "home", list)?;
@@ -229,7 +244,13 @@ fn push_wire(page: &mut Page, list: ListNo, frames: &Frames) -> Result<(), OutOf
     page.frames(frames)
 }
 
-fn push_deliver(page: &mut Page, list: ListNo, binding: u32, how: How, frames: &Frames) -> Result<(), OutOfMemory>
+fn push_deliver(
+    page: &mut Page,
+    list: ListNo,
+    binding: u32,
+    how: How,
+    frames: &Frames,
+) -> Result<(), OutOfMemory>
     ensures { OnOk result (page.new ≡ spaced page.old (row_words (row.Deliver list binding how frames.now))) }
 {
     push_list(page, "deliver", list)?;
@@ -245,7 +266,11 @@ fn push_phase_row(page: &mut Page, of: PhaseOf) -> Result<(), OutOfMemory>
     push_phase(page, of)
 }
 
-fn push_config_row(page: &mut Page, config: ConfigNo, filters: &FilterList) -> Result<(), OutOfMemory>
+fn push_config_row(
+    page: &mut Page,
+    config: ConfigNo,
+    filters: &FilterList,
+) -> Result<(), OutOfMemory>
     ensures { OnOk result (page.new ≡ spaced page.old (row_words (row.Config config filters.now))) }
 {
     page.word("config")?;
@@ -253,7 +278,15 @@ fn push_config_row(page: &mut Page, config: ConfigNo, filters: &FilterList) -> R
     push_config(page, filters)
 }
 
-fn push_oid_issue(page: &mut Page, request: OidNo, parent: Option<OidNo>, binding: u32, kind: OidKind, code: u32, value: &OidValue) -> Result<(), OutOfMemory>
+fn push_oid_issue(
+    page: &mut Page,
+    request: OidNo,
+    parent: Option<OidNo>,
+    binding: u32,
+    kind: OidKind,
+    code: u32,
+    value: &OidValue,
+) -> Result<(), OutOfMemory>
     ensures { OnOk result (page.new ≡ spaced page.old (row_words (row.OidIssue request parent binding kind code value.now))) }
 {
     page.word("oidissue")?;
@@ -273,7 +306,12 @@ fn push_oid_give(page: &mut Page, request: OidNo, module: ModuleId) -> Result<()
     page.module(module)
 }
 
-fn push_oid_done(page: &mut Page, request: OidNo, status: OidStatus, value: &OidValue) -> Result<(), OutOfMemory>
+fn push_oid_done(
+    page: &mut Page,
+    request: OidNo,
+    status: OidStatus,
+    value: &OidValue,
+) -> Result<(), OutOfMemory>
     ensures { OnOk result (page.new ≡ spaced page.old (row_words (row.OidDone request status value.now))) }
 {
     page.word("oiddone")?;
@@ -282,7 +320,12 @@ fn push_oid_done(page: &mut Page, request: OidNo, status: OidStatus, value: &Oid
     page.value(value)
 }
 
-fn push_status(page: &mut Page, number: StatusNo, name: StatusName, to: Target) -> Result<(), OutOfMemory>
+fn push_status(
+    page: &mut Page,
+    number: StatusNo,
+    name: StatusName,
+    to: Target,
+) -> Result<(), OutOfMemory>
     ensures { OnOk result (page.new ≡ spaced page.old (row_words (row.Status number name to))) }
 {
     page.word("status")?;
@@ -299,7 +342,12 @@ fn push_seen(page: &mut Page, number: StatusNo, module: ModuleId) -> Result<(), 
     page.module(module)
 }
 
-fn push_cross_out(page: &mut Page, message: CrossNo, way: OutWay, frames: &Frames) -> Result<(), OutOfMemory>
+fn push_cross_out(
+    page: &mut Page,
+    message: CrossNo,
+    way: OutWay,
+    frames: &Frames,
+) -> Result<(), OutOfMemory>
     ensures { OnOk result (page.new ≡ spaced page.old (row_words (row.CrossOut message way frames.now))) }
 {
     page.word("crossout")?;
@@ -307,7 +355,13 @@ fn push_cross_out(page: &mut Page, message: CrossNo, way: OutWay, frames: &Frame
     push_out(page, way, frames)
 }
 
-fn push_cross_in(page: &mut Page, stack: u8, message: CrossNo, way: Way, frames: &Frames) -> Result<(), OutOfMemory>
+fn push_cross_in(
+    page: &mut Page,
+    stack: u8,
+    message: CrossNo,
+    way: Way,
+    frames: &Frames,
+) -> Result<(), OutOfMemory>
     ensures { OnOk result (page.new ≡ spaced page.old (row_words (row.CrossIn stack message way frames.now))) }
 {
     page.word("crossin")?;
