@@ -11,10 +11,10 @@ use ndis_journal::{Journal, Lines, Page};
 use outside_io::{Failed, Sink, write_whole};
 use std::alloc::Global;
 
-/// A page has this room in bytes.
+/// The room of the page, in bytes.
 const PAGE: usize = 65_536;
 
-/// A page with so many bytes is full: behind them a line of the longest frames has room.
+/// A page with so many bytes is full. Behind them a line of eight of the longest frames has room.
 const FULL: usize = 32_768;
 
 /// Why a report wasn't written whole.
@@ -156,7 +156,8 @@ fn write_parts<K: Sink>(
 }
 
 /// Writes the journal of each stack, lowest first, and then a line for each refused call, sorted by
-/// lane and then by call. The lines are gathered on a page, which is written where it is full and at the end.
+/// lane and then by call. The lines are gathered on one page, which is written where it is full and
+/// at the end.
 pub fn write_report<K: Sink>(
     alloc: Global,
     sink: &mut K,
