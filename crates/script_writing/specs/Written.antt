@@ -43,11 +43,27 @@ filter_data kind setup = object_of (
     ∷ (codes "send", program_data setup.send)
     ∷ [])
 
+-- a filter without its programs
+abbrev pub plain_filter_data : FilterKind → Setup → Members
+plain_filter_data kind setup = named_members (
+    (codes "handlers", string (handlers_text setup.handlers))
+    ∷ (codes "kind", string (filter_kind_text kind))
+    ∷ (codes "pool", number_data setup.pool)
+    ∷ [])
+
 abbrev pub filters_data : List FilterSetup → Data
 filters_data filters = list_data (map (λ filter. filter_data filter.kind filter.setup) filters)
 
 abbrev pub plain_port_data : MiniportKind → PortSetup → Data
 plain_port_data kind port = object_of (
+    (codes "address", hex_data port.address)
+    ∷ (codes "kind", string (miniport_kind_text kind))
+    ∷ (codes "pool", number_data port.pool)
+    ∷ (codes "ring", number_data port.ring)
+    ∷ [])
+
+abbrev pub port_members : MiniportKind → PortSetup → Members
+port_members kind port = named_members (
     (codes "address", hex_data port.address)
     ∷ (codes "kind", string (miniport_kind_text kind))
     ∷ (codes "pool", number_data port.pool)
@@ -116,6 +132,19 @@ binding_member binding = (codes "binding", number_data binding)
 
 abbrev pub frames_member : List (List ℕ) → List ℕ × Data
 frames_member frames = (codes "frames", frames_data frames)
+
+-- those alone
+abbrev pub shared_data : Call → CallWord → Members
+shared_data call w = named_members (word_member w ∷ lane_member call ∷ pump_member call ∷ stack_member call ∷ [])
+
+-- those, and the binding that the call is at
+abbrev pub bound_data : Call → CallWord → ℕ → Members
+bound_data call w binding = named_members (binding_member binding ∷ word_member w ∷ lane_member call ∷ pump_member call ∷ stack_member call ∷ [])
+
+-- a send with no cancel identifier
+abbrev pub sent_data : Call → ℕ → List (List ℕ) → Members
+sent_data call binding frames =
+    named_members (binding_member binding ∷ word_member word.Send ∷ frames_member frames ∷ lane_member call ∷ pump_member call ∷ stack_member call ∷ [])
 
 -- a call with no members of its own
 abbrev pub plain_data : Call → CallWord → Data

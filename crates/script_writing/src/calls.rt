@@ -1,12 +1,13 @@
 //! Calls written as JSON.
 ghost use Rattle.std.specs.Prelude.{◌≡◌, ◌∷◌, map, decimal, string_bytes, IfOk};
-ghost use Rattle.serde_json.specs.View.{view};
+ghost use Rattle.serde_json.specs.View.{view, members_view};
 ghost use Rattle.program_forms.specs.Written.{hex_data};
 ghost use Rattle.script_types.specs.declared.CallKind.TheVariants as ask;
 ghost use Rattle.script_forms.specs.Call.{word_text, way_text};
-ghost use Rattle.script_writing.specs.Written.{plain_data, bringing_data, send_data, insert_data, replace_data, kind_data, call_data};
+ghost use Rattle.script_writing.specs.Written.{shared_data, bound_data, sent_data, frames_data, plain_data, bringing_data, send_data, insert_data, replace_data, kind_data, call_data};
 
 use crate::filters::filter_value;
+use crate::members::{object_with, with_hex, with_member, with_text};
 use journal_types::{Setup, Way};
 use ndis_base::{
     FilterKind, Frame, ListNo, OidKind, OidValue, OutOfMemory, StatusName, name_of_oid_kind,
@@ -14,7 +15,7 @@ use ndis_base::{
 };
 use script_forms::words::CallWord;
 use script_types::{Call, CallKind};
-use serde_json::{Value, json};
+use serde_json::{Map, Value, json};
 use std::alloc::{AllocError, Global};
 
 fn name_of_word(word: CallWord) -> &'static str
@@ -73,15 +74,44 @@ fn frame_values(alloc: Global, frames: &[Frame]) -> Result<Vec<Value>, AllocErro
     Ok(values)
 }
 
+// The members that each call has.
+fn shared_members(
+    alloc: Global,
+    call: &Call,
+    word: CallWord,
+) -> Result<Map<String, Value>, AllocError>
+    ensures { IfOk result (λ m. members_view m.entries ≡ shared_data call.now word) }
+{
+    let said = with_text(alloc, Map::new(alloc), "call", name_of_word(word))?;
+    let of_lane = with_member(alloc, said, "lane", Value::from(call.lane.0))?;
+    let with_pump = with_member(alloc, of_lane, "pump", Value::from(call.pump))?;
+    with_member(alloc, with_pump, "stack", Value::from(call.stack))
+}
+
+// The members of a call at a binding.
+fn bound_members(
+    alloc: Global,
+    call: &Call,
+    word: CallWord,
+    binding: u32,
+) -> Result<Map<String, Value>, AllocError>
+    ensures { IfOk result (λ m. members_view m.entries ≡ bound_data call.now word binding) }
+{
+    let shared = shared_members(alloc, call, word)?;
+    with_member(alloc, shared, "binding", Value::from(binding))
+}
+
+fn frames_value(alloc: Global, frames: &[Frame]) -> Result<Value, AllocError>
+    ensures { IfOk result (λ v. view v ≡ frames_data frames.now) }
+{
+    Ok(Value::from(frame_values(alloc, frames)?))
+}
+
 fn plain_value(alloc: Global, call: &Call, word: CallWord) -> Result<Value, AllocError>
     ensures { IfOk result (λ v. view v ≡ plain_data call.now word) }
 {
-    json!(in alloc; {
-        "call": name_of_word(word),
-        "lane": call.lane.0,
-        "pump": call.pump,
-        "stack": call.stack
-    })
+    let members = shared_members(alloc, call, word)?;
+    Ok(Value::from(members))
 }
 
 fn bringing_value(
@@ -92,14 +122,23 @@ fn bringing_value(
 ) -> Result<Value, AllocError>
     ensures { IfOk result (λ v. view v ≡ bringing_data call.now word frames.now) }
 {
-    let values = frame_values(alloc, frames)?;
-    json!(in alloc; {
-        "call": name_of_word(word),
-        "frames": Value::Array(values),
-        "lane": call.lane.0,
-        "pump": call.pump,
-        "stack": call.stack
-    })
+    let brought = frames_value(alloc, frames)?;
+    let shared = shared_members(alloc, call, word)?;
+    object_with(alloc, shared, "frames", brought)
+}
+
+// The members of a send, but for its cancel identifier.
+fn sent_members(
+    alloc: Global,
+    call: &Call,
+    binding: u32,
+    frames: &[Frame],
+) -> Result<Map<String, Value>, AllocError>
+    ensures { IfOk result (λ m. members_view m.entries ≡ sent_data call.now binding frames.now) }
+{
+    let sent = frames_value(alloc, frames)?;
+    let bound = bound_members(alloc, call, CallWord::Send, binding)?;
+    with_member(alloc, bound, "frames", sent)
 }
 
 fn send_value(
@@ -111,25 +150,10 @@ fn send_value(
 ) -> Result<Value, AllocError>
     ensures { IfOk result (λ v. view v ≡ send_data call.now binding cancel frames.now) }
 {
-    let values = frame_values(alloc, frames)?;
+    let members = sent_members(alloc, call, binding, frames)?;
     match cancel {
-        Some(id) => json!(in alloc; {
-            "binding": binding,
-            "call": name_of_word(CallWord::Send),
-            "cancel": id,
-            "frames": Value::Array(values),
-            "lane": call.lane.0,
-            "pump": call.pump,
-            "stack": call.stack
-        }),
-        None => json!(in alloc; {
-            "binding": binding,
-            "call": name_of_word(CallWord::Send),
-            "frames": Value::Array(values),
-            "lane": call.lane.0,
-            "pump": call.pump,
-            "stack": call.stack
-        }),
+        Some(id) => object_with(alloc, members, "cancel", Value::from(id)),
+        None => Ok(Value::from(members)),
     }
 }
 
@@ -141,26 +165,15 @@ fn give_back_value(
 ) -> Result<Value, AllocError>
     ensures { IfOk result (λ v. view v ≡ kind_data call.now (ask.GiveBack binding list)) }
 {
-    json!(in alloc; {
-        "binding": binding,
-        "call": name_of_word(CallWord::GiveBack),
-        "lane": call.lane.0,
-        "list": list.0,
-        "pump": call.pump,
-        "stack": call.stack
-    })
+    let bound = bound_members(alloc, call, CallWord::GiveBack, binding)?;
+    object_with(alloc, bound, "list", Value::from(list.0))
 }
 
 fn cancel_value(alloc: Global, call: &Call, id: u32) -> Result<Value, AllocError>
     ensures { IfOk result (λ v. view v ≡ kind_data call.now (ask.Cancel id)) }
 {
-    json!(in alloc; {
-        "call": name_of_word(CallWord::Cancel),
-        "id": id,
-        "lane": call.lane.0,
-        "pump": call.pump,
-        "stack": call.stack
-    })
+    let shared = shared_members(alloc, call, CallWord::Cancel)?;
+    object_with(alloc, shared, "id", Value::from(id))
 }
 
 fn ask_value(
@@ -173,30 +186,19 @@ fn ask_value(
 ) -> Result<Value, AllocError>
     ensures { IfOk result (λ v. view v ≡ kind_data call.now (ask.Ask binding kind code value.now)) }
 {
-    let digits = hex::encode(alloc, &code.to_be_bytes())?;
-    let bytes = hex::encode(alloc, value.bytes())?;
-    json!(in alloc; {
-        "binding": binding,
-        "call": name_of_word(CallWord::Ask),
-        "code": digits,
-        "kind": name_of_oid_kind(kind),
-        "lane": call.lane.0,
-        "pump": call.pump,
-        "stack": call.stack,
-        "value": bytes
-    })
+    let bound = bound_members(alloc, call, CallWord::Ask, binding)?;
+    let of_kind = with_text(alloc, bound, "kind", name_of_oid_kind(kind))?;
+    let coded = with_hex(alloc, of_kind, "code", &code.to_be_bytes())?;
+    let members = with_hex(alloc, coded, "value", value.bytes())?;
+    Ok(Value::from(members))
 }
 
 fn status_value(alloc: Global, call: &Call, name: StatusName) -> Result<Value, AllocError>
     ensures { IfOk result (λ v. view v ≡ kind_data call.now (ask.Status name)) }
 {
-    json!(in alloc; {
-        "call": name_of_word(CallWord::Status),
-        "lane": call.lane.0,
-        "name": name_of_status_name(name),
-        "pump": call.pump,
-        "stack": call.stack
-    })
+    let shared = shared_members(alloc, call, CallWord::Status)?;
+    let members = with_text(alloc, shared, "name", name_of_status_name(name))?;
+    Ok(Value::from(members))
 }
 
 fn insert_object(
@@ -207,14 +209,9 @@ fn insert_object(
 ) -> Result<Value, AllocError>
     ensures { IfOk result (λ v. view v ≡ insert_data call.now position (view filter)) }
 {
-    json!(in alloc; {
-        "call": name_of_word(CallWord::Insert),
-        "filter": filter,
-        "lane": call.lane.0,
-        "position": position,
-        "pump": call.pump,
-        "stack": call.stack
-    })
+    let shared = shared_members(alloc, call, CallWord::Insert)?;
+    let placed = with_member(alloc, shared, "position", Value::from(position))?;
+    object_with(alloc, placed, "filter", filter)
 }
 
 fn insert_value(
@@ -234,13 +231,8 @@ fn remove_value(alloc: Global, call: &Call, filter: u64) -> Result<Value, AllocE
     ensures { IfOk result (λ v. view v ≡ kind_data call.now (ask.Remove filter)) }
 {
     let name = filter_name(alloc, filter)?;
-    json!(in alloc; {
-        "call": name_of_word(CallWord::Remove),
-        "lane": call.lane.0,
-        "module": name,
-        "pump": call.pump,
-        "stack": call.stack
-    })
+    let shared = shared_members(alloc, call, CallWord::Remove)?;
+    object_with(alloc, shared, "module", Value::from(name))
 }
 
 fn replace_object(
@@ -252,14 +244,9 @@ fn replace_object(
     ensures { IfOk result (λ v. view v ≡ replace_data call.now filter (view replacement)) }
 {
     let name = filter_name(alloc, filter)?;
-    json!(in alloc; {
-        "call": name_of_word(CallWord::Replace),
-        "filter": replacement,
-        "lane": call.lane.0,
-        "module": name,
-        "pump": call.pump,
-        "stack": call.stack
-    })
+    let shared = shared_members(alloc, call, CallWord::Replace)?;
+    let named = with_member(alloc, shared, "module", Value::from(name))?;
+    object_with(alloc, named, "filter", replacement)
 }
 
 fn replace_value(
@@ -278,13 +265,9 @@ fn replace_value(
 fn relay_value(alloc: Global, call: &Call, way: Way) -> Result<Value, AllocError>
     ensures { IfOk result (λ v. view v ≡ kind_data call.now (ask.Relay way)) }
 {
-    json!(in alloc; {
-        "call": name_of_word(CallWord::Relay),
-        "lane": call.lane.0,
-        "pump": call.pump,
-        "stack": call.stack,
-        "way": name_of_way(way)
-    })
+    let shared = shared_members(alloc, call, CallWord::Relay)?;
+    let members = with_text(alloc, shared, "way", name_of_way(way))?;
+    Ok(Value::from(members))
 }
 
 fn call_value(alloc: Global, call: &Call) -> Result<Value, OutOfMemory>

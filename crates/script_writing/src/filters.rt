@@ -1,15 +1,16 @@
 //! Filters written as JSON.
 ghost use Rattle.std.specs.Prelude.{◌≡◌, ◌++◌, map, string_bytes, IfOk};
-ghost use Rattle.serde_json.specs.View.{view};
+ghost use Rattle.serde_json.specs.View.{view, members_view};
 ghost use Rattle.program_forms.specs.Written.{program_data};
 ghost use Rattle.script_forms.specs.Filter.{handlers_text};
 ghost use Rattle.script_forms.specs.Filter as form;
-ghost use Rattle.script_writing.specs.Written.{filter_data};
+ghost use Rattle.script_writing.specs.Written.{plain_filter_data, filter_data};
 
+use crate::members::{object_with, with_member, with_text};
 use journal_types::Setup;
 use ndis_base::{FilterKind, Handlers, OutOfMemory, name_of_filter_kind};
 use script_types::FilterSetup;
-use serde_json::{Value, json};
+use serde_json::{Map, Value};
 use std::alloc::{AllocError, Global};
 
 fn letter_if(there: bool, letter: &'static str) -> &'static str
@@ -28,6 +29,20 @@ fn handlers_of(alloc: Global, handlers: Handlers) -> Result<String, AllocError>
     format!(in alloc; "{send}{receive}{oid}{status}")
 }
 
+// The members of a filter, but for its programs.
+fn filter_members(
+    alloc: Global,
+    kind: FilterKind,
+    setup: &Setup,
+) -> Result<Map<String, Value>, AllocError>
+    ensures { IfOk result (λ m. members_view m.entries ≡ plain_filter_data kind setup.now) }
+{
+    let handlers = handlers_of(alloc, setup.handlers)?;
+    let handled = with_member(alloc, Map::new(alloc), "handlers", Value::from(handlers))?;
+    let of_kind = with_text(alloc, handled, "kind", name_of_filter_kind(kind))?;
+    with_member(alloc, of_kind, "pool", Value::from(setup.pool))
+}
+
 // The filter, with its programs as JSON.
 fn filter_object(
     alloc: Global,
@@ -40,15 +55,9 @@ fn filter_object(
     requires sends { view send ≡ program_data setup.now.send }
     ensures { IfOk result (λ v. view v ≡ filter_data kind setup.now) }
 {
-    let handlers = handlers_of(alloc, setup.handlers)?;
-    let name = name_of_filter_kind(kind);
-    json!(in alloc; {
-        "handlers": handlers,
-        "kind": name,
-        "pool": setup.pool,
-        "receive": receive,
-        "send": send
-    })
+    let members = filter_members(alloc, kind, setup)?;
+    let receiving = with_member(alloc, members, "receive", receive)?;
+    object_with(alloc, receiving, "send", send)
 }
 
 pub fn filter_value(alloc: Global, kind: FilterKind, setup: &Setup) -> Result<Value, OutOfMemory>

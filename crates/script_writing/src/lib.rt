@@ -3,6 +3,7 @@
 
 mod calls;
 mod filters;
+mod members;
 mod stacks;
 mod whole;
 

@@ -1,16 +1,32 @@
 //! Stacks written as JSON.
 ghost use Rattle.std.specs.Prelude.{◌≡◌, map, IfOk};
-ghost use Rattle.serde_json.specs.View.{view};
+ghost use Rattle.serde_json.specs.View.{view, members_view};
+ghost use Rattle.script_writing.specs.Written as spec;
 ghost use Rattle.script_writing.specs.Written.{plain_port_data, linked_port_data, miniport_data, binding_data, stack_data};
 
 use crate::filters::filter_values;
+use crate::members::{object_with, with_hex, with_member, with_text};
 use journal_types::PortSetup;
 use ndis_base::{
     MiniportKind, OutOfMemory, ProtocolKind, name_of_miniport_kind, name_of_protocol_kind,
 };
 use script_types::{MiniportSetup, StackSetup};
-use serde_json::{Value, json};
+use serde_json::{Map, Value, json};
 use std::alloc::{AllocError, Global};
+
+// The members that each miniport has.
+fn port_members(
+    alloc: Global,
+    kind: MiniportKind,
+    port: &PortSetup,
+) -> Result<Map<String, Value>, AllocError>
+    ensures { IfOk result (λ m. members_view m.entries ≡ spec.port_members kind port.now) }
+{
+    let named = with_text(alloc, Map::new(alloc), "kind", name_of_miniport_kind(kind))?;
+    let addressed = with_hex(alloc, named, "address", &port.address)?;
+    let pooled = with_member(alloc, addressed, "pool", Value::from(port.pool))?;
+    with_member(alloc, pooled, "ring", Value::from(port.ring))
+}
 
 fn plain_port_value(
     alloc: Global,
@@ -19,14 +35,8 @@ fn plain_port_value(
 ) -> Result<Value, AllocError>
     ensures { IfOk result (λ v. view v ≡ plain_port_data kind port.now) }
 {
-    let address = hex::encode(alloc, &port.address)?;
-    let name = name_of_miniport_kind(kind);
-    json!(in alloc; {
-        "address": address,
-        "kind": name,
-        "pool": port.pool,
-        "ring": port.ring
-    })
+    let members = port_members(alloc, kind, port)?;
+    Ok(Value::from(members))
 }
 
 fn linked_port_value(
@@ -38,17 +48,10 @@ fn linked_port_value(
 ) -> Result<Value, AllocError>
     ensures { IfOk result (λ v. view v ≡ linked_port_data kind port.now link vlan) }
 {
-    let address = hex::encode(alloc, &port.address)?;
-    let name = name_of_miniport_kind(kind);
-    json!(in alloc; {
-        "address": address,
-        "binding": link.1,
-        "kind": name,
-        "lower": link.0,
-        "pool": port.pool,
-        "ring": port.ring,
-        "vlan": vlan
-    })
+    let members = port_members(alloc, kind, port)?;
+    let bound = with_member(alloc, members, "binding", Value::from(link.1))?;
+    let standing = with_member(alloc, bound, "lower", Value::from(link.0))?;
+    object_with(alloc, standing, "vlan", Value::from(vlan))
 }
 
 fn miniport_value(alloc: Global, miniport: &MiniportSetup) -> Result<Value, AllocError>
@@ -65,8 +68,13 @@ fn miniport_value(alloc: Global, miniport: &MiniportSetup) -> Result<Value, Allo
 fn binding_value(alloc: Global, binding: (ProtocolKind, usize)) -> Result<Value, AllocError>
     ensures { IfOk result (λ v. view v ≡ binding_data binding) }
 {
-    let name = name_of_protocol_kind(binding.0);
-    json!(in alloc; {"kind": name, "pool": binding.1})
+    let named = with_text(
+        alloc,
+        Map::new(alloc),
+        "kind",
+        name_of_protocol_kind(binding.0),
+    )?;
+    object_with(alloc, named, "pool", Value::from(binding.1))
 }
 
 fn binding_values(
