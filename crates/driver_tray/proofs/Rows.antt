@@ -9,7 +9,6 @@ use Rattle.journal_types.specs.declared.Reply.{Reply}
 use Rattle.journal_types.specs.declared.PhaseOf.TheVariants as of
 use Rattle.journal_types.specs.declared.Row.{Row}
 use Rattle.journal_types.specs.declared.Turn.{Turn}
-use Rattle.buffer_pools.specs.declared.label.Label.{Label}
 use Rattle.buffer_pools.specs.Views.{PoolView, Fits}
 use Rattle.agenda_items.specs.declared.Carried.{Carried}
 use Rattle.flat_journal.specs.declared.types.FlatRow.{FlatRow}
@@ -20,10 +19,10 @@ use Rattle.flat_journal.specs.Payloads.{Payloads}
 use Rattle.flat_journal.specs.Rooms.{Uses, no_room}
 use Rattle.flat_journal.specs.Shown.{row_of, event_of, reply_of}
 use Rattle.flat_journal.proofs.Grown.{grown_by_frames, event_of_same, reply_of_same, event_within_grown, reply_within_grown}
-use Rattle.stack_rules.specs.Net.{Net, after, after_rows, seen}
+use Rattle.stack_rules.specs.Net.{Net, start, told, after, after_rows, after_turn, after_turns, seen}
 use Rattle.driver_tray.specs.declared.telling.Telling.{Telling}
-use Rattle.driver_tray.specs.Tray.{TrayView, IsSteady, written, framed, issued, issue_row}
-use Rattle.driver_tray.specs.Inside.{told_of, ToldWithin, begun_by, net_of, shown_of}
+use Rattle.driver_tray.specs.Tray.{TrayView, IsSteady, begun_by, ended, written, framed}
+use Rattle.driver_tray.specs.Inside.{told_of, ToldWithin, net_of, shown_of}
 
 pub after_rows-append : (net : Net) (rows : List Row) (r : Row) → after_rows net (rows ++ r ∷ []) ≡ after (after_rows net rows) r
 after_rows-append net [] r = refl
@@ -115,6 +114,38 @@ within_framed j (Some t) frames w =
 pub net_framed : (j : FlatView) (t : Option Telling) (frames : List (List ℕ)) → ToldWithin j.payloads t → net_of (frames_more j frames) t ≡ net_of j t
 net_framed j t frames w = ap (λ told. after_rows (begun_by (seen j.head j.turns) told) j.rows) (told_framed j t frames w)
 
+-- the rows become a turn
+abbrev pub turn_more : FlatView → Turn → FlatView
+turn_more j turn = record j { turns = j.turns ++ turn ∷ []; rows = []; room = record j.room { turns = j.room.turns - 1 } }
+
+turn_less : (before left : Room) → Uses before left (record no_room { turns = 1 }) → left ≡ record before { turns = before.turns - 1 }
+turn_less before left u =
+    same_room left (before.turns - 1) before.rows before.frames before.bytes before.filters before.setups
+    (omega (arith, u.turns)) (omega (arith, u.rows)) (omega (arith, u.frames)) (omega (arith, u.bytes)) (omega (arith, u.filters)) (omega (arith, u.setups))
+
+pub journal_ended : (j k : FlatView) (turn : Turn) → k.head ≡ j.head → k.turns ≡ j.turns ++ turn ∷ [] → k.rows ≡ [] → k.payloads ≡ j.payloads
+    → Uses j.room k.room (record no_room { turns = 1 }) → k ≡ turn_more j turn
+journal_ended j k turn h t rs p u =
+    same_view k j.head (j.turns ++ turn ∷ []) [] j.payloads (record j.room { turns = j.room.turns - 1 }) h t rs p (turn_less j.room k.room u)
+
+after_turns-append : (net : Net) (turns : List Turn) (turn : Turn) → after_turns net (turns ++ turn ∷ []) ≡ after_turn (after_turns net turns) turn
+after_turns-append net [] turn = refl
+after_turns-append net (t ∷ ts) turn = after_turns-append (after_turn net t) ts turn
+
+pub net_ended : (j : FlatView) (t : Option Telling) (turn : Turn) → turn.rows ≡ j.rows → begun_by (seen j.head j.turns) (told_of j.payloads t) ≡ told (seen j.head j.turns) turn.event turn.reply
+    → net_of (turn_more j turn) None ≡ net_of j t
+net_ended j t turn rows same =
+    after_turns-append (start j.head) j.turns turn
+    ∙ ap (λ (n : Net). after_rows n turn.rows) (sym same)
+    ∙ ap (λ (rs : List Row). after_rows (begun_by (seen j.head j.turns) (told_of j.payloads t)) rs) rows
+
+pub shown_ended : (j k : FlatView) (t : Option Telling) (queue : List Carried) (slack : ℕ) (caller : ModuleId) (pool : PoolView) (turn : Turn) → k ≡ turn_more j turn → turn.rows ≡ j.rows
+    → begun_by (seen j.head j.turns) (told_of j.payloads t) ≡ told (seen j.head j.turns) turn.event turn.reply
+    → shown_of k None queue slack caller pool ≡ ended (shown_of j t queue slack caller pool) turn
+shown_ended j k t queue slack caller pool turn e rows same =
+    ap (λ (v : FlatView). shown_of v None queue slack caller pool) e
+    ∙ ap (λ (n : Net). record (shown_of (turn_more j turn) None queue slack caller pool) { net = n }) (net_ended j t turn rows same)
+
 -- the tray with one more row, and with a list that was issued
 pub shown_written : (j k : FlatView) (t : Option Telling) (queue : List Carried) (slack : ℕ) (caller : ModuleId) (pool : PoolView) (r : Row) → k ≡ row_more j r
     → shown_of k t queue slack caller pool ≡ written (shown_of j t queue slack caller pool) r
@@ -127,12 +158,6 @@ pub shown_framed : (j : FlatView) (t : Option Telling) (queue : List Carried) (s
 shown_framed j t queue slack caller pool frames w =
     ap (λ (n : Net). record (shown_of (frames_more j frames) t queue slack caller pool) { net = n }) (net_framed j t frames w)
     ∙ ap (λ (o : Option (Event × Reply)). record (framed (shown_of j t queue slack caller pool) frames) { told_by = o }) (told_framed j t frames w)
-
-pub shown_issued : (j k : FlatView) (t : Option Telling) (queue : List Carried) (slack : ℕ) (caller : ModuleId) (pool : PoolView) (label : Label) (frames : List (List ℕ)) → ToldWithin j.payloads t
-    → k ≡ row_more (frames_more j frames) (issue_row label frames) → shown_of k t queue slack caller pool ≡ issued (shown_of j t queue slack caller pool) label frames
-shown_issued j k t queue slack caller pool label frames w e =
-    shown_written (frames_more j frames) k t queue slack caller pool (issue_row label frames) e
-    ∙ ap (λ (v : TrayView). written v (issue_row label frames)) (shown_framed j t queue slack caller pool frames w)
 
 -- frames of a list have at most so many bytes together
 sum_short : (frames : List (List ℕ)) → All (λ f. length f ≤ 1518) frames → sum_by length frames ≤ 1518 * length frames

@@ -10,10 +10,10 @@ use Rattle.flat_journal.specs.Flat.{FlatView}
 use Rattle.flat_journal.specs.Payloads.{Payloads}
 use Rattle.flat_journal.specs.Shown.{event_of, reply_of}
 use Rattle.flat_journal.specs.Within.{EventWithin, ReplyWithin}
-use Rattle.stack_rules.specs.Net.{Net, seen, told, after_rows}
+use Rattle.stack_rules.specs.Net.{Net, seen, after_rows}
 use Rattle.driver_tray.specs.declared.telling.Telling.{Telling}
 use Rattle.driver_tray.specs.declared.tray.Tray.TheInside.{Inside}
-use Rattle.driver_tray.specs.Tray.{TrayView}
+use Rattle.driver_tray.specs.Tray.{TrayView, begun_by}
 
 -- what was told, as it shows
 abbrev pub told_of : Payloads → Option Telling → Option (Event × Reply)
@@ -24,11 +24,6 @@ told_of p (Some t) = Some (event_of p t.event, reply_of p t.reply)
 abbrev pub ToldWithin : Payloads → Option Telling → Type 0
 ToldWithin p None = Unit {0}
 ToldWithin p (Some t) = EventWithin p t.event × ReplyWithin p t.reply
-
--- the state in which the rows of the turn begin: the journal's, and with it what was told
-abbrev pub begun_by : Net → Option (Event × Reply) → Net
-begun_by net None = net
-begun_by net (Some telling) = told net telling.0 telling.1
 
 -- the state after the rows so far
 abbrev pub net_of : FlatView → Option Telling → Net

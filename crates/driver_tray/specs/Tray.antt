@@ -1,9 +1,10 @@
 -- The tray: the journal and the turn under way, the state after its rows, what is on its way, and the pool of the
 -- module that is called. A driver's calls into the stack are written into it.
-use Rattle.std.specs.Prelude.{ℕ, ◌≡◌, ◌+◌, ◌-◌, List, [], ◌∷◌, ◌++◌, Option, length, sum_by}
+use Rattle.std.specs.Prelude.{ℕ, ◌≡◌, ◌+◌, ◌-◌, List, [], ◌∷◌, ◌++◌, Option, Some, None, length, sum_by}
 use Rattle.ndis_base.specs.declared.ModuleId.{ModuleId}
 use Rattle.ndis_base.specs.declared.ListNo.{ListNo}
 use Rattle.ndis_base.specs.declared.ListStatus.{ListStatus}
+use Rattle.ndis_base.specs.declared.Who.{Who}
 use Rattle.ndis_base.specs.declared.Direction.{Direction}
 use Rattle.ndis_base.specs.declared.Direction.TheVariants as direction
 use Rattle.ndis_base.specs.declared.Origin.TheVariants as origin
@@ -23,7 +24,7 @@ use Rattle.flat_journal.specs.declared.types.FlatRow.{FlatRow}
 use Rattle.flat_journal.specs.declared.types.FlatRow.TheVariants as flat_row
 use Rattle.flat_journal.specs.declared.types.Room.{Room}
 use Rattle.flat_journal.specs.Payloads.{Payloads}
-use Rattle.stack_rules.specs.Net.{Net, after}
+use Rattle.stack_rules.specs.Net.{Net, start, told, after}
 use Rattle.stack_rules.specs.Places.{position}
 use Rattle.stack_rules.specs.Targets.{next_down, next_up, next_done, next_back, onward, homeward_by}
 use Rattle.stack_rules.specs.Outcome.{list_no, config_no}
@@ -40,6 +41,37 @@ pub record TrayView : Type 0 where
   pub slack : ℕ
   pub caller : ModuleId
   pub pool : PoolView
+
+-- a tray of a stack without turns
+pub record IsNew (head_is : StackHead) (t : TrayView) : Type 0 where
+  pub head : t.head ≡ head_is
+  pub turns : t.turns ≡ []
+  pub told_by : t.told_by ≡ None
+  pub net : t.net ≡ start head_is
+  pub rows : t.rows ≡ []
+  pub queue : t.queue ≡ []
+
+-- the state in which the rows of the turn begin: the journal's, and with it what was told
+abbrev pub begun_by : Net → Option (Event × Reply) → Net
+begun_by net None = net
+begun_by net (Some telling) = told net telling.0 telling.1
+
+-- the event and its reply were told
+abbrev pub told_to : TrayView → Event → Reply → TrayView
+told_to t e r = record t { told_by = Some (e, r); net = told t.net e r }
+
+-- what is told changes neither the modules nor the number of the next list
+pub record TellsOther (net : Net) (e : Event) (r : Reply) : Type 0 where
+  pub modules : (told net e r).modules ≡ net.modules
+  pub next : (told net e r).next.list ≡ net.next.list
+
+-- the turn of the rows so far
+abbrev pub turn_of : TrayView → Who → Event → Reply → Turn
+turn_of t who e r = record { who = who; event = e; reply = r; rows = t.rows }
+
+-- the rows became a turn
+abbrev pub ended : TrayView → Turn → TrayView
+ended t turn = record t { turns = t.turns ++ turn ∷ []; told_by = None; rows = []; room = record t.room { turns = t.room.turns - 1 } }
 
 -- the rows that change neither the modules nor the number of the next list
 abbrev pub IsSteady : FlatRow → Type 0

@@ -4,6 +4,7 @@
 pub mod lists;
 pub mod telling;
 pub mod tray;
+pub mod turns;
 
 pub use crate::telling::Telling;
 pub use crate::tray::Tray;

@@ -1,20 +1,25 @@
 //! The tray, and the rows that are written into it.
-ghost use Rattle.std.specs.Prelude.{◌≡◌, ℕ, ◌*◌, ◌+◌, ◌≤◌, ◌<◌, ◌^◌, ◌∷◌, ◌++◌, [], None, Some, OnOk, length, List};
+ghost use Rattle.std.specs.Prelude.{◌≡◌, ℕ, ◌*◌, ◌+◌, ◌≤◌, ◌<◌, ◌^◌, ◌∷◌, ◌++◌, [], None, Some, IfOk, OnOk, length, sum_by, List};
 ghost use Rattle.agenda_items.specs.Views.{kept_as};
 ghost use Rattle.agenda_items.specs.declared.Item.{Item};
 ghost use Rattle.agenda_items.specs.declared.Carried.TheVariants as carried;
 ghost use Rattle.buffer_pools.specs.Views.{Fits};
+ghost use Rattle.frame_arena.specs.Spans.{frames_at, SpanWithin};
 ghost use Rattle.flat_journal.specs.Rooms.{Covers};
 ghost use Rattle.flat_journal.specs.Shown.{row_of};
 ghost use Rattle.flat_journal.specs.Within.{RowWithin};
-ghost use Rattle.driver_tray.specs.Tray.{TrayView, written, issued, queued, issue_row, IsSteady};
+ghost use Rattle.driver_tray.specs.Tray.{TrayView, IsNew, written, framed, issued, queued, issue_row, IsSteady};
 
 use crate::telling::Telling;
 use agenda_items::{Carried, Item};
 use buffer_pools::{BufferList, KeptList, Label, ListPool};
 use flat_journal::{FlatJournal, FlatRow, Room};
+use frame_arena::FrameSpan;
+use journal_types::StackHead;
 use ndis_base::{Frame, ModuleId, OutOfMemory};
 use plain_state::PlainModules;
+use plain_state::modules::first_modules;
+use std::alloc::Global;
 use std::collections::VecDeque;
 use std::marker::Model;
 use std::mem;
@@ -25,7 +30,7 @@ const FAR: u64 = 1 << 60;
 #[derive(Drop)]
 pub struct Tray {
     pub(crate) journal: FlatJournal,
-    told: Option<Telling>,
+    pub(crate) told: Option<Telling>,
     pub(crate) modules: PlainModules,
     pub(crate) next: u64,
     queue: VecDeque<Carried>,
@@ -57,6 +62,24 @@ fn taken_out(carried: Carried) -> Item
 }
 
 impl Tray {
+    /// The tray of a stack without turns.
+    pub fn make(alloc: Global, head: StackHead) -> Result<Tray, OutOfMemory>
+        ensures { IfOk result (λ t. IsNew head t) }
+    {
+        let modules = first_modules(alloc, head.bindings.items().len())?;
+        let pool = ListPool::make(alloc, 0, 0)?;
+        Ok(Tray {
+            journal: FlatJournal::make(alloc, head),
+            told: None,
+            modules,
+            next: 1,
+            queue: VecDeque::new(alloc),
+            slack: 0,
+            caller: ModuleId::Miniport,
+            pool,
+        })
+    }
+
     /// Makes room in the journal, and for so many more things on their way. It also answers want of
     /// memory where the numbers of lists have come to 2 to the power of 60, which no run can reach.
     pub fn make_room(&mut self, room: Room, things: usize) -> Result<(), OutOfMemory>
@@ -131,17 +154,25 @@ impl Tray {
         mem::swap(&mut self.pool, pool);
     }
 
-    /// Writes the Issue row of a list.
-    pub fn issue(&mut self, label: Label, frames: &[Frame])
+    /// Adds frames that rows can show, and gives their span.
+    pub fn hold_frames(&mut self, frames: &[Frame]) -> FrameSpan
+        requires frame_room { length frames.now ≤ self.old.room.frames }
+        requires byte_room { sum_by length frames.now ≤ self.old.room.bytes }
+        ensures tray { self.new ≡ framed self.old frames.now }
+        ensures within { SpanWithin self.new.payloads.frames result }
+        ensures shown { frames_at self.new.payloads.frames result ≡ frames.now }
+    {
+        self.journal.push_frames(frames)
+    }
+
+    /// Writes the Issue row of a list whose frames the journal has.
+    pub fn issue_held(&mut self, label: Label, span: FrameSpan)
         requires number { label.number.0 ≡ self.old.net.next.list }
         requires low { self.old.net.next.list < 2 ^ 60 }
-        requires fits { Fits frames.now 1518 }
+        requires within { SpanWithin self.old.payloads.frames span }
         requires room { 1 ≤ self.old.room.rows }
-        requires frame_room { 8 ≤ self.old.room.frames }
-        requires byte_room { 8 * 1518 ≤ self.old.room.bytes }
-        ensures { self.new ≡ issued self.old label frames.now }
+        ensures { self.new ≡ written self.old (issue_row label (frames_at self.old.payloads.frames span)) }
     {
-        let span = self.journal.push_frames(frames);
         self.journal.write_row(FlatRow::Issue {
             list: label.number,
             owner: label.owner,
@@ -152,5 +183,19 @@ impl Tray {
             frames: span,
         });
         self.next += 1;
+    }
+
+    /// Writes the Issue row of a list.
+    pub fn issue(&mut self, label: Label, frames: &[Frame])
+        requires number { label.number.0 ≡ self.old.net.next.list }
+        requires low { self.old.net.next.list < 2 ^ 60 }
+        requires fits { Fits frames.now 1518 }
+        requires room { 1 ≤ self.old.room.rows }
+        requires frame_room { 8 ≤ self.old.room.frames }
+        requires byte_room { 8 * 1518 ≤ self.old.room.bytes }
+        ensures { self.new ≡ issued self.old label frames.now }
+    {
+        let span = self.hold_frames(frames);
+        self.issue_held(label, span);
     }
 }
