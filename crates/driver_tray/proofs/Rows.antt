@@ -1,0 +1,172 @@
+-- One more row of the turn under way.
+use Rattle.std.proofs.Common.{◌≡◌, ℕ, ◌+◌, ◌-◌, ◌*◌, ◌≤◌, List, [], ◌∷◌, ◌++◌, Option, None, Some, All, length, sum_by, refl, sym, ap, ◌∙◌, subst, arith}
+use Rattle.std.proofs.lemmas.List.Elements.{All-head, All-tail}
+use Rattle.std.proofs.lemmas.List.Sums.{sum_by-cons}
+use Rattle.ndis_base.specs.declared.ModuleId.{ModuleId}
+use Rattle.journal_types.specs.declared.StackHead.{StackHead}
+use Rattle.journal_types.specs.declared.Event.{Event}
+use Rattle.journal_types.specs.declared.Reply.{Reply}
+use Rattle.journal_types.specs.declared.PhaseOf.TheVariants as of
+use Rattle.journal_types.specs.declared.Row.{Row}
+use Rattle.journal_types.specs.declared.Turn.{Turn}
+use Rattle.buffer_pools.specs.Views.{PoolView, Fits}
+use Rattle.agenda_items.specs.declared.Carried.{Carried}
+use Rattle.flat_journal.specs.declared.types.FlatRow.{FlatRow}
+use Rattle.flat_journal.specs.declared.types.FlatRow.TheVariants as flat_row
+use Rattle.flat_journal.specs.declared.types.Room.{Room}
+use Rattle.flat_journal.specs.Flat.{FlatView}
+use Rattle.flat_journal.specs.Payloads.{Payloads}
+use Rattle.flat_journal.specs.Rooms.{Uses, no_room}
+use Rattle.flat_journal.specs.Shown.{row_of, event_of, reply_of}
+use Rattle.flat_journal.proofs.Grown.{grown_by_frames, event_of_same, reply_of_same, event_within_grown, reply_within_grown}
+use Rattle.stack_rules.specs.Net.{Net, start, told, after, after_rows, after_turn, after_turns, seen}
+use Rattle.driver_tray.specs.declared.telling.Telling.{Telling}
+use Rattle.driver_tray.specs.Tray.{TrayView, IsSteady, begun_by, ended, written, framed}
+use Rattle.driver_tray.specs.Inside.{told_of, ToldWithin, net_of, shown_of}
+
+pub after_rows-append : (net : Net) (rows : List Row) (r : Row) → after_rows net (rows ++ r ∷ []) ≡ after (after_rows net rows) r
+after_rows-append net [] r = refl
+after_rows-append net (x ∷ xs) r = after_rows-append (after net x) xs r
+
+-- a row that leaves the modules and the number of the next list
+pub record Leaves (net : Net) (r : Row) : Type 0 where
+  pub modules : (after net r).modules ≡ net.modules
+  pub next : (after net r).next.list ≡ net.next.list
+
+pub steady : (net : Net) (p : Payloads) (r : FlatRow) → IsSteady r → Leaves net (row_of p r)
+steady net p (flat_row.Issue list owner config direction cancel origin frames) s = absurd s
+steady net p (flat_row.Give list m handler) s = record { modules = refl; next = refl }
+steady net p (flat_row.Pass list way to) s = record { modules = refl; next = refl }
+steady net p (flat_row.Keep list m) s = record { modules = refl; next = refl }
+steady net p (flat_row.TurnBack list m status) s = record { modules = refl; next = refl }
+steady net p (flat_row.Home list owner status) s = record { modules = refl; next = refl }
+steady net p (flat_row.Wire list frames) s = record { modules = refl; next = refl }
+steady net p (flat_row.Deliver list binding how frames) s = record { modules = refl; next = refl }
+steady net p (flat_row.Phase (of.Module m state)) s = absurd s
+steady net p (flat_row.Phase (of.Stack phase)) s = record { modules = refl; next = refl }
+steady net p (flat_row.Config config filters) s = absurd s
+steady net p (flat_row.OidIssue request parent binding kind code value) s = record { modules = refl; next = refl }
+steady net p (flat_row.OidGive request m) s = record { modules = refl; next = refl }
+steady net p (flat_row.OidDone request status value) s = record { modules = refl; next = refl }
+steady net p (flat_row.Status number name to) s = record { modules = refl; next = refl }
+steady net p (flat_row.Seen number m) s = record { modules = refl; next = refl }
+steady net p (flat_row.CrossOut message way frames) s = record { modules = refl; next = refl }
+steady net p (flat_row.CrossIn stack message way frames) s = record { modules = refl; next = refl }
+
+-- what is left of a room
+same_room : (left : Room) (turns rows frames bytes filters setups : ℕ) → left.turns ≡ turns → left.rows ≡ rows → left.frames ≡ frames → left.bytes ≡ bytes → left.filters ≡ filters → left.setups ≡ setups
+    → left ≡ record { turns = turns; rows = rows; frames = frames; bytes = bytes; filters = filters; setups = setups }
+same_room left turns rows frames bytes filters setups t r f b i s = rw (← t, ← r, ← f, ← b, ← i, ← s) refl
+
+row_less : (before left : Room) → Uses before left (record no_room { rows = 1 }) → left ≡ record before { rows = before.rows - 1 }
+row_less before left u =
+    same_room left before.turns (before.rows - 1) before.frames before.bytes before.filters before.setups
+    (omega (arith, u.turns)) (omega (arith, u.rows)) (omega (arith, u.frames)) (omega (arith, u.bytes)) (omega (arith, u.filters)) (omega (arith, u.setups))
+
+frames_less : (before left : Room) (many bytes : ℕ) → Uses before left (record no_room { frames = many; bytes = bytes }) → left ≡ record before { frames = before.frames - many; bytes = before.bytes - bytes }
+frames_less before left many bytes u =
+    same_room left before.turns before.rows (before.frames - many) (before.bytes - bytes) before.filters before.setups
+    (omega (arith, u.turns)) (omega (arith, u.rows)) (omega (arith, u.frames)) (omega (arith, u.bytes)) (omega (arith, u.filters)) (omega (arith, u.setups))
+
+same_view : (k : FlatView) (head : StackHead) (turns : List Turn) (rows : List Row) (payloads : Payloads) (room : Room)
+    → k.head ≡ head → k.turns ≡ turns → k.rows ≡ rows → k.payloads ≡ payloads → k.room ≡ room
+    → k ≡ record { head = head; turns = turns; rows = rows; payloads = payloads; room = room }
+same_view k head turns rows payloads room h t r p m = rw (← h, ← t, ← r, ← p, ← m) refl
+
+-- the journal with one more row
+abbrev pub row_more : FlatView → Row → FlatView
+row_more j r = record j { rows = j.rows ++ r ∷ []; room = record j.room { rows = j.room.rows - 1 } }
+
+pub journal_written : (j k : FlatView) (r : Row) → k.head ≡ j.head → k.turns ≡ j.turns → k.rows ≡ j.rows ++ r ∷ [] → k.payloads ≡ j.payloads
+    → Uses j.room k.room (record no_room { rows = 1 }) → k ≡ row_more j r
+journal_written j k r h t rs p u =
+    same_view k j.head j.turns (j.rows ++ r ∷ []) j.payloads (record j.room { rows = j.room.rows - 1 }) h t rs p (row_less j.room k.room u)
+
+pub net_written : (j : FlatView) (t : Option Telling) (r : Row) → net_of (row_more j r) t ≡ after (net_of j t) r
+net_written j t r = after_rows-append (begun_by (seen j.head j.turns) (told_of j.payloads t)) j.rows r
+
+-- the journal with more frames
+abbrev pub frames_more : FlatView → List (List ℕ) → FlatView
+frames_more j frames = record j {
+  payloads = record j.payloads { frames = j.payloads.frames ++ frames };
+  room = record j.room { frames = j.room.frames - length frames; bytes = j.room.bytes - sum_by length frames };
+}
+
+pub journal_framed : (j k : FlatView) (frames : List (List ℕ)) → k.head ≡ j.head → k.turns ≡ j.turns → k.rows ≡ j.rows → k.payloads ≡ record j.payloads { frames = j.payloads.frames ++ frames }
+    → Uses j.room k.room (record no_room { frames = length frames; bytes = sum_by length frames }) → k ≡ frames_more j frames
+journal_framed j k frames h t rs p u =
+    same_view k j.head j.turns j.rows (record j.payloads { frames = j.payloads.frames ++ frames }) (record j.room { frames = j.room.frames - length frames; bytes = j.room.bytes - sum_by length frames })
+    h t rs p (frames_less j.room k.room (length frames) (sum_by length frames) u)
+
+-- what was told shows as before
+pub told_framed : (j : FlatView) (t : Option Telling) (frames : List (List ℕ)) → ToldWithin j.payloads t → told_of (frames_more j frames).payloads t ≡ told_of j.payloads t
+told_framed j None frames w = refl
+told_framed j (Some t) frames w =
+    let g = grown_by_frames j.payloads (frames_more j frames).payloads frames refl refl refl in
+    rw (event_of_same j.payloads (frames_more j frames).payloads g t.event w.0, reply_of_same j.payloads (frames_more j frames).payloads g t.reply w.1) refl
+
+pub within_framed : (j : FlatView) (t : Option Telling) (frames : List (List ℕ)) → ToldWithin j.payloads t → ToldWithin (frames_more j frames).payloads t
+within_framed j None frames w = w
+within_framed j (Some t) frames w =
+    let g = grown_by_frames j.payloads (frames_more j frames).payloads frames refl refl refl in
+    (event_within_grown j.payloads (frames_more j frames).payloads g t.event w.0, reply_within_grown j.payloads (frames_more j frames).payloads g t.reply w.1)
+
+pub net_framed : (j : FlatView) (t : Option Telling) (frames : List (List ℕ)) → ToldWithin j.payloads t → net_of (frames_more j frames) t ≡ net_of j t
+net_framed j t frames w = ap (λ told. after_rows (begun_by (seen j.head j.turns) told) j.rows) (told_framed j t frames w)
+
+-- the rows become a turn
+abbrev pub turn_more : FlatView → Turn → FlatView
+turn_more j turn = record j { turns = j.turns ++ turn ∷ []; rows = []; room = record j.room { turns = j.room.turns - 1 } }
+
+turn_less : (before left : Room) → Uses before left (record no_room { turns = 1 }) → left ≡ record before { turns = before.turns - 1 }
+turn_less before left u =
+    same_room left (before.turns - 1) before.rows before.frames before.bytes before.filters before.setups
+    (omega (arith, u.turns)) (omega (arith, u.rows)) (omega (arith, u.frames)) (omega (arith, u.bytes)) (omega (arith, u.filters)) (omega (arith, u.setups))
+
+pub journal_ended : (j k : FlatView) (turn : Turn) → k.head ≡ j.head → k.turns ≡ j.turns ++ turn ∷ [] → k.rows ≡ [] → k.payloads ≡ j.payloads
+    → Uses j.room k.room (record no_room { turns = 1 }) → k ≡ turn_more j turn
+journal_ended j k turn h t rs p u =
+    same_view k j.head (j.turns ++ turn ∷ []) [] j.payloads (record j.room { turns = j.room.turns - 1 }) h t rs p (turn_less j.room k.room u)
+
+after_turns-append : (net : Net) (turns : List Turn) (turn : Turn) → after_turns net (turns ++ turn ∷ []) ≡ after_turn (after_turns net turns) turn
+after_turns-append net [] turn = refl
+after_turns-append net (t ∷ ts) turn = after_turns-append (after_turn net t) ts turn
+
+pub net_ended : (j : FlatView) (t : Option Telling) (turn : Turn) → turn.rows ≡ j.rows → begun_by (seen j.head j.turns) (told_of j.payloads t) ≡ told (seen j.head j.turns) turn.event turn.reply
+    → net_of (turn_more j turn) None ≡ net_of j t
+net_ended j t turn rows same =
+    after_turns-append (start j.head) j.turns turn
+    ∙ ap (λ (n : Net). after_rows n turn.rows) (sym same)
+    ∙ ap (λ (rs : List Row). after_rows (begun_by (seen j.head j.turns) (told_of j.payloads t)) rs) rows
+
+pub shown_ended : (j k : FlatView) (t : Option Telling) (queue : List Carried) (slack : ℕ) (caller : ModuleId) (pool : PoolView) (turn : Turn) → k ≡ turn_more j turn → turn.rows ≡ j.rows
+    → begun_by (seen j.head j.turns) (told_of j.payloads t) ≡ told (seen j.head j.turns) turn.event turn.reply
+    → shown_of k None queue slack caller pool ≡ ended (shown_of j t queue slack caller pool) turn
+shown_ended j k t queue slack caller pool turn e rows same =
+    ap (λ (v : FlatView). shown_of v None queue slack caller pool) e
+    ∙ ap (λ (n : Net). record (shown_of (turn_more j turn) None queue slack caller pool) { net = n }) (net_ended j t turn rows same)
+
+-- the tray with one more row, and with a list that was issued
+pub shown_written : (j k : FlatView) (t : Option Telling) (queue : List Carried) (slack : ℕ) (caller : ModuleId) (pool : PoolView) (r : Row) → k ≡ row_more j r
+    → shown_of k t queue slack caller pool ≡ written (shown_of j t queue slack caller pool) r
+shown_written j k t queue slack caller pool r e =
+    ap (λ (v : FlatView). shown_of v t queue slack caller pool) e
+    ∙ ap (λ (n : Net). record (shown_of (row_more j r) t queue slack caller pool) { net = n }) (net_written j t r)
+
+pub shown_framed : (j : FlatView) (t : Option Telling) (queue : List Carried) (slack : ℕ) (caller : ModuleId) (pool : PoolView) (frames : List (List ℕ)) → ToldWithin j.payloads t
+    → shown_of (frames_more j frames) t queue slack caller pool ≡ framed (shown_of j t queue slack caller pool) frames
+shown_framed j t queue slack caller pool frames w =
+    ap (λ (n : Net). record (shown_of (frames_more j frames) t queue slack caller pool) { net = n }) (net_framed j t frames w)
+    ∙ ap (λ (o : Option (Event × Reply)). record (framed (shown_of j t queue slack caller pool) frames) { told_by = o }) (told_framed j t frames w)
+
+-- frames of a list have at most so many bytes together
+sum_short : (frames : List (List ℕ)) → All (λ f. length f ≤ 1518) frames → sum_by length frames ≤ 1518 * length frames
+sum_short [] short = omega arith
+sum_short (f ∷ fs) short =
+    let cons : sum_by length (f ∷ fs) ≡ length f + sum_by length fs = sum_by-cons length f fs in
+    let first : length f ≤ 1518 = All-head (λ (g : List ℕ). length g ≤ 1518) f fs short in
+    let others : sum_by length fs ≤ 1518 * length fs = sum_short fs (All-tail (λ (g : List ℕ). length g ≤ 1518) f fs short) in
+    omega (arith, cons, first, others)
+
+pub fits_bytes : (frames : List (List ℕ)) → Fits frames 1518 → sum_by length frames ≤ 8 * 1518
+fits_bytes frames fits = omega (arith, fits.few, sum_short frames fits.short)

@@ -1,0 +1,163 @@
+-- The tray: the journal and the turn under way, the state after its rows, what is on its way, and the pool of the
+-- module that is called. A driver's calls into the stack are written into it.
+use Rattle.std.specs.Prelude.{ℕ, ◌≡◌, ◌+◌, ◌-◌, List, [], ◌∷◌, ◌++◌, Option, Some, None, length, sum_by}
+use Rattle.ndis_base.specs.declared.ModuleId.{ModuleId}
+use Rattle.ndis_base.specs.declared.ListNo.{ListNo}
+use Rattle.ndis_base.specs.declared.ListStatus.{ListStatus}
+use Rattle.ndis_base.specs.declared.Who.{Who}
+use Rattle.ndis_base.specs.declared.Direction.{Direction}
+use Rattle.ndis_base.specs.declared.Direction.TheVariants as direction
+use Rattle.ndis_base.specs.declared.Origin.TheVariants as origin
+use Rattle.journal_types.specs.declared.StackHead.{StackHead}
+use Rattle.journal_types.specs.declared.Event.{Event}
+use Rattle.journal_types.specs.declared.Reply.{Reply}
+use Rattle.journal_types.specs.declared.Handler.{Handler}
+use Rattle.journal_types.specs.declared.PhaseOf.TheVariants as of
+use Rattle.journal_types.specs.declared.Row.{Row}
+use Rattle.journal_types.specs.declared.Row.TheVariants as row
+use Rattle.journal_types.specs.declared.Turn.{Turn}
+use Rattle.buffer_pools.specs.declared.label.Label.{Label}
+use Rattle.buffer_pools.specs.Views.{ListView, PoolView, Issues, Frees}
+use Rattle.agenda_items.specs.declared.Carried.{Carried}
+use Rattle.agenda_items.specs.declared.Carried.TheVariants as carried
+use Rattle.flat_journal.specs.declared.types.FlatRow.{FlatRow}
+use Rattle.flat_journal.specs.declared.types.FlatRow.TheVariants as flat_row
+use Rattle.flat_journal.specs.declared.types.Room.{Room}
+use Rattle.flat_journal.specs.Payloads.{Payloads}
+use Rattle.stack_rules.specs.Net.{Net, start, told, after}
+use Rattle.stack_rules.specs.Places.{position}
+use Rattle.stack_rules.specs.Targets.{next_down, next_up, next_done, next_back, onward, homeward_by}
+use Rattle.stack_rules.specs.Outcome.{list_no, config_no}
+
+pub record TrayView : Type 0 where
+  pub head : StackHead
+  pub turns : List Turn
+  pub told_by : Option (Event × Reply)
+  pub net : Net
+  pub rows : List Row
+  pub payloads : Payloads
+  pub room : Room
+  pub queue : List Carried
+  pub slack : ℕ
+  pub caller : ModuleId
+  pub pool : PoolView
+
+-- a tray of a stack without turns
+pub record IsNew (head_is : StackHead) (t : TrayView) : Type 0 where
+  pub head : t.head ≡ head_is
+  pub turns : t.turns ≡ []
+  pub told_by : t.told_by ≡ None
+  pub net : t.net ≡ start head_is
+  pub rows : t.rows ≡ []
+  pub queue : t.queue ≡ []
+
+-- the state in which the rows of the turn begin: the journal's, and with it what was told
+abbrev pub begun_by : Net → Option (Event × Reply) → Net
+begun_by net None = net
+begun_by net (Some telling) = told net telling.0 telling.1
+
+-- the event and its reply were told
+abbrev pub told_to : TrayView → Event → Reply → TrayView
+told_to t e r = record t { told_by = Some (e, r); net = told t.net e r }
+
+-- what is told changes neither the modules nor the number of the next list
+pub record TellsOther (net : Net) (e : Event) (r : Reply) : Type 0 where
+  pub modules : (told net e r).modules ≡ net.modules
+  pub next : (told net e r).next.list ≡ net.next.list
+
+-- the turn of the rows so far
+abbrev pub turn_of : TrayView → Who → Event → Reply → Turn
+turn_of t who e r = record { who = who; event = e; reply = r; rows = t.rows }
+
+-- the rows became a turn
+abbrev pub ended : TrayView → Turn → TrayView
+ended t turn = record t { turns = t.turns ++ turn ∷ []; told_by = None; rows = []; room = record t.room { turns = t.room.turns - 1 } }
+
+-- the rows that change neither the modules nor the number of the next list
+abbrev pub IsSteady : FlatRow → Type 0
+IsSteady (flat_row.Issue list owner config direction cancel origin frames) = ⊥
+IsSteady (flat_row.Phase (of.Module m s)) = ⊥
+IsSteady (flat_row.Phase (of.Stack p)) = Unit {0}
+IsSteady (flat_row.Config config filters) = ⊥
+IsSteady _ = Unit {0}
+
+-- one more row
+abbrev pub written : TrayView → Row → TrayView
+written t r = record t { net = after t.net r; rows = t.rows ++ r ∷ []; room = record t.room { rows = t.room.rows - 1 } }
+
+-- more frames, which rows can show
+abbrev pub framed : TrayView → List (List ℕ) → TrayView
+framed t frames = record t {
+  payloads = record t.payloads { frames = t.payloads.frames ++ frames };
+  room = record t.room { frames = t.room.frames - length frames; bytes = t.room.bytes - sum_by length frames };
+}
+
+-- one more list on its way
+abbrev pub queued : TrayView → ListView → TrayView
+queued t l = record t { queue = t.queue ++ carried.List l ∷ []; slack = t.slack - 1 }
+
+-- the row of a list that is issued
+abbrev pub issue_row : Label → List (List ℕ) → Row
+issue_row label frames = row.Issue label.number label.owner label.config label.direction label.cancel label.origin frames
+
+-- a list was issued
+abbrev pub issued : TrayView → Label → List (List ℕ) → TrayView
+issued t label frames = written (framed t frames) (issue_row label frames)
+
+-- the module that is called was given a list
+abbrev pub given : TrayView → ListNo → Handler → TrayView
+given t n handler = written t (row.Give n t.caller handler)
+
+-- the rows by which the module that is called passes a list onwards and homewards
+abbrev pub onward_row : TrayView → ListView → Row
+onward_row t l = onward t.net.modules l.label.number l.label.direction (position t.net.modules.order t.caller)
+
+abbrev pub homeward_row : TrayView → ListView → ListStatus → Row
+homeward_row t l status =
+    homeward_by t.net.modules l.label.number l.label.owner l.label.direction (position t.net.modules.order t.caller) status
+
+-- the module passed a list on
+abbrev pub passed_on : TrayView → ListView → TrayView
+passed_on t l = queued (written t (onward_row t l)) l
+
+-- it passed a list homewards
+abbrev pub passed_back : TrayView → ListView → ListStatus → TrayView
+passed_back t l status = queued (written t (homeward_row t l status)) l
+
+-- it turned a list back
+abbrev pub turned_back : TrayView → ListView → ListStatus → TrayView
+turned_back t l status = passed_back (written t (row.TurnBack l.label.number t.caller status)) l status
+
+-- it keeps a list
+abbrev pub noted : TrayView → ListNo → TrayView
+noted t n = written t (row.Keep n t.caller)
+
+-- it took a list of its own pool home
+abbrev pub spent : TrayView → ListView → ListStatus → PoolView → TrayView
+spent t l status pool = record (written t (row.Home l.label.number l.label.owner status)) { pool = pool }
+
+pub record Spends (t : TrayView) (l : ListView) (status : ListStatus) (t' : TrayView) : Type 0 where
+  pub frees : Frees t.pool l t'.pool
+  pub tray : t' ≡ spent t l status t'.pool
+
+-- the label of a clone of a list, of the pool of the module that is called
+abbrev pub clone_label : TrayView → ListView → Label
+clone_label t l = record {
+  number = list_no t.net.next.list;
+  owner = t.caller;
+  config = config_no t.net.modules.config;
+  direction = l.label.direction;
+  cancel = l.label.cancel;
+  origin = origin.Clone l.label.number;
+}
+
+-- the module sent a clone on in the place of a list, which it keeps
+abbrev pub cloned_on : TrayView → ListView → ListView → PoolView → TrayView
+cloned_on t l c pool = passed_on (noted (issued (record t { pool = pool }) c.label c.frames) l.label.number) c
+
+pub record Clones (t : TrayView) (l : ListView) (made : List (List ℕ)) (t' : TrayView) : Type 0 where
+  pub clone : ListView
+  pub label : clone.label ≡ clone_label t l
+  pub frames : clone.frames ≡ made
+  pub issues : Issues t.pool clone t'.pool
+  pub tray : t' ≡ cloned_on t l clone t'.pool

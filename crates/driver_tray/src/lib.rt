@@ -1,0 +1,10 @@
+//! The tray into which a driver writes its calls, and which the stack works off afterwards.
+#![tactic(auto)]
+
+pub mod lists;
+pub mod telling;
+pub mod tray;
+pub mod turns;
+
+pub use crate::telling::Telling;
+pub use crate::tray::Tray;

@@ -1,0 +1,164 @@
+//! What a driver does with a list: each function writes its rows and takes no memory.
+ghost use Rattle.std.specs.Prelude.{◌≡◌, ℕ, ◌*◌, ◌≤◌, ◌<◌, ◌^◌, OnOk, OnErr, IsErr, ◌↔◌};
+ghost use Rattle.buffer_pools.specs.Views.{Fits, IsOf, live_count};
+ghost use Rattle.flat_journal.specs.Shown.{row_of};
+ghost use Rattle.flat_journal.specs.Within.{RowWithin};
+ghost use Rattle.stack_rules.specs.Places.{position};
+ghost use Rattle.driver_tray.specs.Tray.{IsSteady, given, passed_on, passed_back, turned_back, noted, onward_row, homeward_row, Clones, Spends};
+
+use crate::tray::Tray;
+use buffer_pools::{BufferList, Label, NoList};
+use flat_journal::FlatRow;
+use journal_types::{Handler, PassWay};
+use ndis_base::{ConfigNo, Direction, Frame, ListNo, ListStatus, Origin};
+use next_targets::{next_back, next_done, next_down, next_up, position};
+
+impl Tray {
+    /// Gives a list to the module that is called.
+    pub fn give(&mut self, list: ListNo, handler: Handler)
+        requires { 1 ≤ self.old.room.rows }
+        ensures { self.new ≡ given self.old list handler }
+    {
+        self.write(FlatRow::Give {
+            list,
+            module: self.caller,
+            handler,
+        });
+    }
+
+    fn from(&self) -> usize
+        ensures { result ≡ position self.now.net.modules.order self.now.caller }
+    {
+        position(self.modules.order(), self.caller)
+    }
+
+    fn onward(&self, list: &BufferList) -> FlatRow
+        ensures steady { IsSteady result }
+        ensures within { RowWithin self.now.payloads result }
+        ensures shown { row_of self.now.payloads result ≡ onward_row self.now list.now }
+    {
+        let from = self.from();
+        match list.direction() {
+            Direction::Down => FlatRow::Pass {
+                list: list.number(),
+                way: PassWay::Down,
+                to: next_down(&self.modules, from),
+            },
+            Direction::Up | Direction::Lent => FlatRow::Pass {
+                list: list.number(),
+                way: PassWay::Up,
+                to: next_up(&self.modules, from),
+            },
+        }
+    }
+
+    fn homeward(&self, list: &BufferList, status: ListStatus) -> FlatRow
+        ensures steady { IsSteady result }
+        ensures within { RowWithin self.now.payloads result }
+        ensures shown { row_of self.now.payloads result ≡ homeward_row self.now list.now status }
+    {
+        let from = self.from();
+        match list.direction() {
+            Direction::Down => FlatRow::Pass {
+                list: list.number(),
+                way: PassWay::Done(status),
+                to: next_done(&self.modules, from, list.owner()),
+            },
+            Direction::Up | Direction::Lent => FlatRow::Pass {
+                list: list.number(),
+                way: PassWay::Back(status),
+                to: next_back(&self.modules, from, list.owner()),
+            },
+        }
+    }
+
+    /// Passes a list on: down for a send, up for a receive.
+    pub fn forward(&mut self, list: BufferList)
+        requires room { 1 ≤ self.old.room.rows }
+        requires slack { 1 ≤ self.old.slack }
+        ensures { self.new ≡ passed_on self.old list }
+    {
+        let row = self.onward(&list);
+        self.write(row);
+        self.enqueue(list);
+    }
+
+    /// Passes a list homewards with a status: done for a send, back for a receive.
+    pub fn pass_back(&mut self, list: BufferList, status: ListStatus)
+        requires room { 1 ≤ self.old.room.rows }
+        requires slack { 1 ≤ self.old.slack }
+        ensures { self.new ≡ passed_back self.old list status }
+    {
+        let row = self.homeward(&list, status);
+        self.write(row);
+        self.enqueue(list);
+    }
+
+    /// Turns a list back.
+    pub fn turn_back(&mut self, list: BufferList, status: ListStatus)
+        requires room { 2 ≤ self.old.room.rows }
+        requires slack { 1 ≤ self.old.slack }
+        ensures { self.new ≡ turned_back self.old list status }
+    {
+        self.write(FlatRow::TurnBack {
+            list: list.number(),
+            module: self.caller,
+            status,
+        });
+        self.pass_back(list, status);
+    }
+
+    /// Tells that the module keeps a list.
+    pub fn keep_note(&mut self, list: ListNo)
+        requires { 1 ≤ self.old.room.rows }
+        ensures { self.new ≡ noted self.old list }
+    {
+        self.write(FlatRow::Keep {
+            list,
+            module: self.caller,
+        });
+    }
+
+    /// Takes a list of the called module's own pool home.
+    pub fn spend(&mut self, list: BufferList, status: ListStatus)
+        requires own { IsOf self.old.pool list }
+        requires room { 1 ≤ self.old.room.rows }
+        ensures { Spends self.old list status self.new }
+    {
+        self.write(FlatRow::Home {
+            list: list.number(),
+            owner: list.owner(),
+            status,
+        });
+        self.pool.free(list);
+    }
+
+    /// Sends a clone with other frames on in the place of a list, which the module keeps. After
+    /// `NoList` the tray is as before.
+    pub fn pass_clone(&mut self, list: &BufferList, made: &[Frame]) -> Result<(), NoList>
+        requires fits { Fits made.now 1518 }
+        requires pool { self.old.pool.bytes ≡ 1518 }
+        requires room { 3 ≤ self.old.room.rows }
+        requires frame_room { 8 ≤ self.old.room.frames }
+        requires byte_room { 8 * 1518 ≤ self.old.room.bytes }
+        requires slack { 1 ≤ self.old.slack }
+        requires low { self.old.net.next.list < 2 ^ 60 }
+        ensures clones { OnOk result (Clones self.old list.now made.now self.new) }
+        ensures no_list { IsErr result ↔ (live_count self.old.pool ≡ self.old.pool.size) }
+        ensures unchanged { OnErr result (self.new ≡ self.old) }
+    {
+        let label = Label {
+            number: ListNo(self.next),
+            owner: self.caller,
+            config: ConfigNo(self.modules.config()),
+            direction: list.direction(),
+            cancel: list.cancel(),
+            origin: Origin::Clone(list.number()),
+        };
+        let clone = self.pool.issue(label, made)?;
+        self.issue(label, made);
+        self.keep_note(list.number());
+        self.forward(clone);
+        Ok(())
+    }
+}

@@ -1,0 +1,201 @@
+//! The tray, and the rows that are written into it.
+ghost use Rattle.std.specs.Prelude.{◌≡◌, ℕ, ◌*◌, ◌+◌, ◌≤◌, ◌<◌, ◌^◌, ◌∷◌, ◌++◌, [], None, Some, IfOk, OnOk, length, sum_by, List};
+ghost use Rattle.agenda_items.specs.Views.{kept_as};
+ghost use Rattle.agenda_items.specs.declared.Item.{Item};
+ghost use Rattle.agenda_items.specs.declared.Carried.TheVariants as carried;
+ghost use Rattle.buffer_pools.specs.Views.{Fits};
+ghost use Rattle.frame_arena.specs.Spans.{frames_at, SpanWithin};
+ghost use Rattle.flat_journal.specs.Rooms.{Covers};
+ghost use Rattle.flat_journal.specs.Shown.{row_of};
+ghost use Rattle.flat_journal.specs.Within.{RowWithin};
+ghost use Rattle.driver_tray.specs.Tray.{TrayView, IsNew, written, framed, issued, queued, issue_row, IsSteady};
+
+use crate::telling::Telling;
+use agenda_items::{Carried, Item};
+use buffer_pools::{BufferList, KeptList, Label, ListPool};
+use flat_journal::{FlatJournal, FlatRow, Room};
+use frame_arena::FrameSpan;
+use journal_types::StackHead;
+use ndis_base::{Frame, ModuleId, OutOfMemory};
+use plain_state::PlainModules;
+use plain_state::modules::first_modules;
+use std::alloc::Global;
+use std::collections::VecDeque;
+use std::marker::Model;
+use std::mem;
+
+const FAR: u64 = 1 << 60;
+
+/// The journal and the turn under way, what is on its way, and the pool of the module that is called.
+#[derive(Drop)]
+pub struct Tray {
+    pub(crate) journal: FlatJournal,
+    pub(crate) told: Option<Telling>,
+    pub(crate) modules: PlainModules,
+    pub(crate) next: u64,
+    queue: VecDeque<Carried>,
+    slack: usize,
+    pub(crate) caller: ModuleId,
+    pub(crate) pool: ListPool,
+}
+
+impl Model for Tray {
+    ghost use Rattle.driver_tray.specs.Tray.{TrayView};
+
+    ghost Value = { TrayView };
+
+    ghost use Rattle.driver_tray.specs.Inside.{tray_view, IsTray};
+
+    ghost view = { tray_view };
+
+    ghost invariant = { IsTray };
+}
+
+fn taken_out(carried: Carried) -> Item
+    ensures { carried ≡ kept_as result }
+{
+    match carried {
+        Carried::List(kept) => Item::List(kept.into_list()),
+        Carried::Status(status) => Item::Status(status),
+        Carried::Answer(answer) => Item::Answer(answer),
+    }
+}
+
+impl Tray {
+    /// The tray of a stack without turns.
+    pub fn make(alloc: Global, head: StackHead) -> Result<Tray, OutOfMemory>
+        ensures { IfOk result (λ t. IsNew head t) }
+    {
+        let modules = first_modules(alloc, head.bindings.items().len())?;
+        let pool = ListPool::make(alloc, 0, 0)?;
+        Ok(Tray {
+            journal: FlatJournal::make(alloc, head),
+            told: None,
+            modules,
+            next: 1,
+            queue: VecDeque::new(alloc),
+            slack: 0,
+            caller: ModuleId::Miniport,
+            pool,
+        })
+    }
+
+    /// Makes room in the journal, and for so many more things on their way. It also answers want of
+    /// memory where the numbers of lists have come to 2 to the power of 60, which no run can reach.
+    pub fn make_room(&mut self, room: Room, things: usize) -> Result<(), OutOfMemory>
+        ensures same { self.new ≡ record self.old { room = self.new.room; slack = self.new.slack } }
+        ensures room { OnOk result (Covers self.new.room room) }
+        ensures slack { OnOk result (things ≤ self.new.slack) }
+        ensures low { OnOk result (self.new.net.next.list < 2 ^ 60) }
+        ensures room_kept { Covers self.new.room self.old.room }
+        ensures slack_kept { self.old.slack ≤ self.new.slack }
+    {
+        if self.next >= FAR {
+            return Err(OutOfMemory);
+        }
+        self.journal.make_room(room)?;
+        if self.slack < things {
+            self.queue.reserve(things)?;
+            self.slack = things;
+        }
+        Ok(())
+    }
+
+    /// Writes a row that changes neither the modules nor the number of the next list.
+    pub fn write(&mut self, row: FlatRow)
+        requires steady { IsSteady row }
+        requires within { RowWithin self.old.payloads row }
+        requires room { 1 ≤ self.old.room.rows }
+        ensures { self.new ≡ written self.old (row_of self.old.payloads row) }
+    {
+        self.journal.write_row(row);
+    }
+
+    /// Puts a list behind what is on its way.
+    pub fn enqueue(&mut self, list: BufferList)
+        requires { 1 ≤ self.old.slack }
+        ensures { self.new ≡ queued self.old list }
+    {
+        self.queue
+            .push_back_reserved(Carried::List(KeptList::of(list)));
+        self.slack -= 1;
+    }
+
+    /// Takes the first thing that is on its way.
+    pub fn dequeue(&mut self) -> Option<Item>
+        ensures none { result ≡ None → (self.new ≡ self.old) × (self.old.queue ≡ []) }
+        ensures some { (i : Item) → result ≡ Some i → self.old ≡ record self.new { queue = kept_as i ∷ self.new.queue } }
+    {
+        match self.queue.pop_front() {
+            Some(carried) => Some(taken_out(carried)),
+            None => None,
+        }
+    }
+
+    /// The module that is called.
+    pub fn caller(&self) -> ModuleId
+        ensures { result ≡ self.now.caller }
+    {
+        self.caller
+    }
+
+    /// Tells which module is called next.
+    pub fn set_caller(&mut self, module: ModuleId)
+        ensures { self.new ≡ record self.old { caller = «module» } }
+    {
+        self.caller = module;
+    }
+
+    /// Changes the pool of the module that is called.
+    pub fn exchange_pool(&mut self, pool: &mut ListPool)
+        ensures tray { self.new ≡ record self.old { pool = pool.old } }
+        ensures pool { pool.new ≡ self.old.pool }
+    {
+        mem::swap(&mut self.pool, pool);
+    }
+
+    /// Adds frames that rows can show, and gives their span.
+    pub fn hold_frames(&mut self, frames: &[Frame]) -> FrameSpan
+        requires frame_room { length frames.now ≤ self.old.room.frames }
+        requires byte_room { sum_by length frames.now ≤ self.old.room.bytes }
+        ensures tray { self.new ≡ framed self.old frames.now }
+        ensures within { SpanWithin self.new.payloads.frames result }
+        ensures shown { frames_at self.new.payloads.frames result ≡ frames.now }
+    {
+        self.journal.push_frames(frames)
+    }
+
+    /// Writes the Issue row of a list whose frames the journal has.
+    pub fn issue_held(&mut self, label: Label, span: FrameSpan)
+        requires number { label.number.0 ≡ self.old.net.next.list }
+        requires low { self.old.net.next.list < 2 ^ 60 }
+        requires within { SpanWithin self.old.payloads.frames span }
+        requires room { 1 ≤ self.old.room.rows }
+        ensures { self.new ≡ written self.old (issue_row label (frames_at self.old.payloads.frames span)) }
+    {
+        self.journal.write_row(FlatRow::Issue {
+            list: label.number,
+            owner: label.owner,
+            config: label.config,
+            direction: label.direction,
+            cancel: label.cancel,
+            origin: label.origin,
+            frames: span,
+        });
+        self.next += 1;
+    }
+
+    /// Writes the Issue row of a list.
+    pub fn issue(&mut self, label: Label, frames: &[Frame])
+        requires number { label.number.0 ≡ self.old.net.next.list }
+        requires low { self.old.net.next.list < 2 ^ 60 }
+        requires fits { Fits frames.now 1518 }
+        requires room { 1 ≤ self.old.room.rows }
+        requires frame_room { 8 ≤ self.old.room.frames }
+        requires byte_room { 8 * 1518 ≤ self.old.room.bytes }
+        ensures { self.new ≡ issued self.old label frames.now }
+    {
+        let span = self.hold_frames(frames);
+        self.issue_held(label, span);
+    }
+}

@@ -1,0 +1,10 @@
+-- Which filters have a pair of handlers.
+use Rattle.std.specs.Prelude.{ℕ, Bool}
+use Rattle.stack_rules.specs.Net.{Modules}
+use Rattle.stack_rules.specs.Targets.{has_send, has_receive}
+use Rattle.next_targets.specs.declared.filters.Pair.{Pair}
+use Rattle.next_targets.specs.declared.filters.Pair.TheVariants as pair
+
+abbrev pub has : Pair → Modules → ℕ → Bool
+has pair.Send ms = has_send ms
+has pair.Receive ms = has_receive ms
