@@ -1,5 +1,5 @@
 -- One more row of the turn under way.
-use Rattle.std.proofs.Common.{◌≡◌, ℕ, ◌+◌, ◌-◌, ◌*◌, ◌≤◌, List, [], ◌∷◌, ◌++◌, Option, None, Some, All, length, sum_by, refl, sym, ap, ◌∙◌, subst, arith}
+use Rattle.std.proofs.Common.{◌≡◌, ℕ, ◌+◌, ◌-◌, ◌*◌, ◌≤◌, List, [], ◌∷◌, ◌++◌, Option, None, Some, All, length, sum_by, refl, sym, ap, ◌∙◌, arith}
 use Rattle.std.proofs.lemmas.List.Elements.{All-head, All-tail}
 use Rattle.std.proofs.lemmas.List.Sums.{sum_by-cons}
 use Rattle.ndis_base.specs.declared.ModuleId.{ModuleId}
@@ -17,11 +17,11 @@ use Rattle.flat_journal.specs.declared.types.Room.{Room}
 use Rattle.flat_journal.specs.Flat.{FlatView}
 use Rattle.flat_journal.specs.Payloads.{Payloads}
 use Rattle.flat_journal.specs.Rooms.{Uses, no_room}
-use Rattle.flat_journal.specs.Shown.{row_of, event_of, reply_of}
+use Rattle.flat_journal.specs.Shown.{row_of}
 use Rattle.flat_journal.proofs.Grown.{grown_by_frames, event_of_same, reply_of_same, event_within_grown, reply_within_grown}
 use Rattle.stack_rules.specs.Net.{Net, start, told, after, after_rows, after_turn, after_turns, seen}
 use Rattle.driver_tray.specs.declared.telling.Telling.{Telling}
-use Rattle.driver_tray.specs.Tray.{TrayView, IsSteady, begun_by, ended, written, framed}
+use Rattle.driver_tray.specs.Tray.{IsSteady, begun_by, ended, written, framed}
 use Rattle.driver_tray.specs.Inside.{told_of, ToldWithin, net_of, shown_of}
 
 pub after_rows-append : (net : Net) (rows : List Row) (r : Row) → after_rows net (rows ++ r ∷ []) ≡ after (after_rows net rows) r

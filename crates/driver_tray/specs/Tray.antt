@@ -5,7 +5,6 @@ use Rattle.ndis_base.specs.declared.ModuleId.{ModuleId}
 use Rattle.ndis_base.specs.declared.ListNo.{ListNo}
 use Rattle.ndis_base.specs.declared.ListStatus.{ListStatus}
 use Rattle.ndis_base.specs.declared.Who.{Who}
-use Rattle.ndis_base.specs.declared.Direction.{Direction}
 use Rattle.ndis_base.specs.declared.Direction.TheVariants as direction
 use Rattle.ndis_base.specs.declared.Origin.TheVariants as origin
 use Rattle.journal_types.specs.declared.StackHead.{StackHead}
@@ -26,7 +25,7 @@ use Rattle.flat_journal.specs.declared.types.Room.{Room}
 use Rattle.flat_journal.specs.Payloads.{Payloads}
 use Rattle.stack_rules.specs.Net.{Net, start, told, after}
 use Rattle.stack_rules.specs.Places.{position}
-use Rattle.stack_rules.specs.Targets.{next_down, next_up, next_done, next_back, onward, homeward_by}
+use Rattle.stack_rules.specs.Targets.{onward, homeward_by}
 use Rattle.stack_rules.specs.Outcome.{list_no, config_no}
 
 pub record TrayView : Type 0 where

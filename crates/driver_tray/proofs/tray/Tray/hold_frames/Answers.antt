@@ -1,4 +1,4 @@
-use Rattle.std.proofs.Common.{◌≡◌, List, sym, ap, ◌∙◌, subst}
+use Rattle.std.proofs.Common.{◌≡◌, sym, ap, ◌∙◌, subst}
 use Rattle.flat_journal.specs.Flat.{FlatView}
 use Rattle.stack_rules.specs.Net.{Net}
 use Rattle.driver_tray.specs.Tray.{TrayView, framed}

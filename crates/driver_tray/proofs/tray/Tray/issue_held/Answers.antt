@@ -1,4 +1,4 @@
-use Rattle.std.proofs.Common.{◌≡◌, ℕ, ◌+◌, sym, ap, ◌∙◌, subst}
+use Rattle.std.proofs.Common.{◌≡◌, ◌+◌, sym, ap, ◌∙◌, subst}
 use Rattle.journal_types.specs.declared.Row.{Row}
 use Rattle.frame_arena.specs.Spans.{frames_at}
 use Rattle.flat_journal.specs.Flat.{FlatView}

@@ -1,11 +1,11 @@
-use Rattle.std.proofs.Common.{◌≡◌, Option, sym, ap, ◌∙◌, subst}
+use Rattle.std.proofs.Common.{◌≡◌, sym, ap, ◌∙◌, subst}
 use Rattle.journal_types.specs.declared.Row.{Row}
 use Rattle.flat_journal.specs.Payloads.{Payloads}
 use Rattle.flat_journal.specs.Shown.{row_of}
 use Rattle.stack_rules.specs.Net.{Net, after}
 use Rattle.flat_journal.specs.Flat.{FlatView}
 use Rattle.driver_tray.specs.Tray.{TrayView, written}
-use Rattle.driver_tray.specs.Inside.{net_of, tray_view, ToldWithin}
+use Rattle.driver_tray.specs.Inside.{net_of, ToldWithin}
 use Rattle.driver_tray.proofs.Rows.{Leaves, steady, row_more, journal_written, net_written, shown_written}
 use Rattle.driver_tray.proofs.tray.Tray.write.Goals as goal
 
