@@ -75,7 +75,7 @@ pub record Writes (old new : BookView) (more : List Row) : Type 0 where
   pub byte_room : new.core.byte_room ≡ old.core.byte_room
   pub drivers : DriversDid old new more
 
--- what is made of the drivers that were handed in stays of one count
+-- nothing that a reader of the book sees has changed: head, turns, net, rows, queue, pools and drivers
 pub record Same (old new : BookView) : Type 0 where
   pub head : new.core.head ≡ old.core.head
   pub turns : new.core.turns ≡ old.core.turns
