@@ -5,12 +5,13 @@ use Rattle.ndis_base.specs.declared.ModuleId.{ModuleId}
 use Rattle.ndis_base.specs.declared.ListNo.{ListNo}
 use Rattle.ndis_base.specs.declared.ListStatus.{ListStatus}
 use Rattle.ndis_base.specs.declared.Who.{Who}
-use Rattle.ndis_base.specs.declared.Direction.TheVariants as direction
+use Rattle.ndis_base.specs.declared.Direction.{Direction}
 use Rattle.ndis_base.specs.declared.Origin.TheVariants as origin
 use Rattle.journal_types.specs.declared.StackHead.{StackHead}
 use Rattle.journal_types.specs.declared.Event.{Event}
 use Rattle.journal_types.specs.declared.Reply.{Reply}
 use Rattle.journal_types.specs.declared.Handler.{Handler}
+use Rattle.journal_types.specs.declared.How.{How}
 use Rattle.journal_types.specs.declared.PhaseOf.TheVariants as of
 use Rattle.journal_types.specs.declared.Row.{Row}
 use Rattle.journal_types.specs.declared.Row.TheVariants as row
@@ -18,7 +19,7 @@ use Rattle.journal_types.specs.declared.Turn.{Turn}
 use Rattle.buffer_pools.specs.declared.label.Label.{Label}
 use Rattle.buffer_pools.specs.Views.{ListView, PoolView, Issues, Frees}
 use Rattle.agenda_items.specs.declared.Carried.{Carried}
-use Rattle.agenda_items.specs.declared.Carried.TheVariants as carried
+use Rattle.agenda_items.specs.Views.{passed_by}
 use Rattle.flat_journal.specs.declared.types.FlatRow.{FlatRow}
 use Rattle.flat_journal.specs.declared.types.FlatRow.TheVariants as flat_row
 use Rattle.flat_journal.specs.declared.types.Room.{Room}
@@ -91,9 +92,9 @@ framed t frames = record t {
   room = record t.room { frames = t.room.frames - length frames; bytes = t.room.bytes - sum_by length frames };
 }
 
--- one more list on its way
-abbrev pub queued : TrayView → ListView → TrayView
-queued t l = record t { queue = t.queue ++ carried.List l ∷ []; slack = t.slack - 1 }
+-- a list is on its way by a row that was written
+abbrev pub passed : TrayView → ListView → Row → TrayView
+passed t l r = record (written t r) { queue = t.queue ++ passed_by l r; slack = t.slack - 1 }
 
 -- the row of a list that is issued
 abbrev pub issue_row : Label → List (List ℕ) → Row
@@ -117,11 +118,11 @@ homeward_row t l status =
 
 -- the module passed a list on
 abbrev pub passed_on : TrayView → ListView → TrayView
-passed_on t l = queued (written t (onward_row t l)) l
+passed_on t l = passed t l (onward_row t l)
 
 -- it passed a list homewards
 abbrev pub passed_back : TrayView → ListView → ListStatus → TrayView
-passed_back t l status = queued (written t (homeward_row t l status)) l
+passed_back t l status = passed t l (homeward_row t l status)
 
 -- it turned a list back
 abbrev pub turned_back : TrayView → ListView → ListStatus → TrayView
@@ -131,6 +132,27 @@ turned_back t l status = passed_back (written t (row.TurnBack l.label.number t.c
 abbrev pub noted : TrayView → ListNo → TrayView
 noted t n = written t (row.Keep n t.caller)
 
+-- a list's frames went onto the wire
+abbrev pub wired : TrayView → ListView → TrayView
+wired t l = written (framed t l.frames) (row.Wire l.label.number l.frames)
+
+-- a list's frames were delivered to a binding
+abbrev pub delivered : TrayView → ListView → ℕ → How → TrayView
+delivered t l binding how = written (framed t l.frames) (row.Deliver l.label.number binding how l.frames)
+
+-- it turned some lists back, or passed them on or homewards, one after the other
+abbrev pub each_turned_back : TrayView → List ListView → ListStatus → TrayView
+each_turned_back t [] status = t
+each_turned_back t (l ∷ ls) status = each_turned_back (turned_back t l status) ls status
+
+abbrev pub each_passed_on : TrayView → List ListView → TrayView
+each_passed_on t [] = t
+each_passed_on t (l ∷ ls) = each_passed_on (passed_on t l) ls
+
+abbrev pub each_passed_back : TrayView → List ListView → ListStatus → TrayView
+each_passed_back t [] status = t
+each_passed_back t (l ∷ ls) status = each_passed_back (passed_back t l status) ls status
+
 -- it took a list of its own pool home
 abbrev pub spent : TrayView → ListView → ListStatus → PoolView → TrayView
 spent t l status pool = record (written t (row.Home l.label.number l.label.owner status)) { pool = pool }
@@ -138,6 +160,28 @@ spent t l status pool = record (written t (row.Home l.label.number l.label.owner
 pub record Spends (t : TrayView) (l : ListView) (status : ListStatus) (t' : TrayView) : Type 0 where
   pub frees : Frees t.pool l t'.pool
   pub tray : t' ≡ spent t l status t'.pool
+
+-- the label of a new list of the module that is called, which is no clone
+abbrev pub root_label : TrayView → Direction → Option ℕ → Label
+root_label t direction cancel = record {
+  number = list_no t.net.next.list;
+  owner = t.caller;
+  config = config_no t.net.modules.config;
+  direction = direction;
+  cancel = cancel;
+  origin = origin.Root;
+}
+
+-- a new list of the module that is called is on its way
+abbrev pub started : TrayView → ListView → PoolView → TrayView
+started t l pool = passed_on (issued (record t { pool = pool }) l.label l.frames) l
+
+pub record Starts (t : TrayView) (direction : Direction) (cancel : Option ℕ) (made : List (List ℕ)) (t' : TrayView) : Type 0 where
+  pub list : ListView
+  pub label : list.label ≡ root_label t direction cancel
+  pub frames : list.frames ≡ made
+  pub issues : Issues t.pool list t'.pool
+  pub tray : t' ≡ started t list t'.pool
 
 -- the label of a clone of a list, of the pool of the module that is called
 abbrev pub clone_label : TrayView → ListView → Label

@@ -4,12 +4,13 @@ ghost use Rattle.buffer_pools.specs.Views.{Fits, IsOf, live_count};
 ghost use Rattle.flat_journal.specs.Shown.{row_of};
 ghost use Rattle.flat_journal.specs.Within.{RowWithin};
 ghost use Rattle.stack_rules.specs.Places.{position};
+ghost use Rattle.journal_types.specs.declared.Row.TheVariants as row;
 ghost use Rattle.driver_tray.specs.Tray.{IsSteady, given, passed_on, passed_back, turned_back, noted, onward_row, homeward_row, Clones, Spends};
 
 use crate::tray::Tray;
 use buffer_pools::{BufferList, Label, NoList};
 use flat_journal::FlatRow;
-use journal_types::{Handler, PassWay};
+use journal_types::{Handler, How, PassWay, Target};
 use ndis_base::{ConfigNo, Direction, Frame, ListNo, ListStatus, Origin};
 use next_targets::{next_back, next_done, next_down, next_up, position};
 
@@ -32,43 +33,29 @@ impl Tray {
         position(self.modules.order(), self.caller)
     }
 
-    fn onward(&self, list: &BufferList) -> FlatRow
-        ensures steady { IsSteady result }
-        ensures within { RowWithin self.now.payloads result }
-        ensures shown { row_of self.now.payloads result ≡ onward_row self.now list.now }
+    fn onward(&self, list: &BufferList) -> (PassWay, Target)
+        ensures { row.Pass list.now.label.number result.0 result.1 ≡ onward_row self.now list.now }
     {
         let from = self.from();
         match list.direction() {
-            Direction::Down => FlatRow::Pass {
-                list: list.number(),
-                way: PassWay::Down,
-                to: next_down(&self.modules, from),
-            },
-            Direction::Up | Direction::Lent => FlatRow::Pass {
-                list: list.number(),
-                way: PassWay::Up,
-                to: next_up(&self.modules, from),
-            },
+            Direction::Down => (PassWay::Down, next_down(&self.modules, from)),
+            Direction::Up | Direction::Lent => (PassWay::Up, next_up(&self.modules, from)),
         }
     }
 
-    fn homeward(&self, list: &BufferList, status: ListStatus) -> FlatRow
-        ensures steady { IsSteady result }
-        ensures within { RowWithin self.now.payloads result }
-        ensures shown { row_of self.now.payloads result ≡ homeward_row self.now list.now status }
+    fn homeward(&self, list: &BufferList, status: ListStatus) -> (PassWay, Target)
+        ensures { row.Pass list.now.label.number result.0 result.1 ≡ homeward_row self.now list.now status }
     {
         let from = self.from();
         match list.direction() {
-            Direction::Down => FlatRow::Pass {
-                list: list.number(),
-                way: PassWay::Done(status),
-                to: next_done(&self.modules, from, list.owner()),
-            },
-            Direction::Up | Direction::Lent => FlatRow::Pass {
-                list: list.number(),
-                way: PassWay::Back(status),
-                to: next_back(&self.modules, from, list.owner()),
-            },
+            Direction::Down => (
+                PassWay::Done(status),
+                next_done(&self.modules, from, list.owner()),
+            ),
+            Direction::Up | Direction::Lent => (
+                PassWay::Back(status),
+                next_back(&self.modules, from, list.owner()),
+            ),
         }
     }
 
@@ -78,9 +65,8 @@ impl Tray {
         requires slack { 1 ≤ self.old.slack }
         ensures { self.new ≡ passed_on self.old list }
     {
-        let row = self.onward(&list);
-        self.write(row);
-        self.enqueue(list);
+        let (way, to) = self.onward(&list);
+        self.pass(list, way, to);
     }
 
     /// Passes a list homewards with a status: done for a send, back for a receive.
@@ -89,9 +75,8 @@ impl Tray {
         requires slack { 1 ≤ self.old.slack }
         ensures { self.new ≡ passed_back self.old list status }
     {
-        let row = self.homeward(&list, status);
-        self.write(row);
-        self.enqueue(list);
+        let (way, to) = self.homeward(&list, status);
+        self.pass(list, way, to);
     }
 
     /// Turns a list back.
@@ -117,6 +102,65 @@ impl Tray {
             list,
             module: self.caller,
         });
+    }
+
+    /// Puts a list's frames onto the wire.
+    pub fn wire(&mut self, list: &BufferList)
+        requires frame_room { length list.now.frames ≤ self.old.room.frames }
+        requires byte_room { sum_by length list.now.frames ≤ self.old.room.bytes }
+        requires room { 1 ≤ self.old.room.rows }
+        ensures { self.new ≡ wired self.old list.now }
+    {
+        let frames = self.hold_list(list);
+        self.write(FlatRow::Wire {
+            list: list.number(),
+            frames,
+        });
+    }
+
+    /// Tells that a list is delivered to a binding.
+    pub fn deliver(&mut self, list: &BufferList, binding: u32, how: How)
+        requires frame_room { length list.now.frames ≤ self.old.room.frames }
+        requires byte_room { sum_by length list.now.frames ≤ self.old.room.bytes }
+        requires room { 1 ≤ self.old.room.rows }
+        ensures { self.new ≡ delivered self.old list.now binding how }
+    {
+        let frames = self.hold_list(list);
+        self.write(FlatRow::Deliver {
+            list: list.number(),
+            binding,
+            how,
+            frames,
+        });
+    }
+
+    /// Sends or indicates a new list of the called module's pool with these frames, which the journal has.
+    /// After `NoList` the tray is as before.
+    pub fn start(&mut self, direction: Direction, cancel: Option<u32>, made: &[Frame], span: FrameSpan) -> Result<ListNo, NoList>
+        requires fits { Fits made.now 1518 }
+        requires within { SpanWithin self.old.payloads.frames span }
+        requires shown { frames_at self.old.payloads.frames span ≡ made.now }
+        requires pool { self.old.pool.bytes ≡ 1518 }
+        requires room { 2 ≤ self.old.room.rows }
+        requires slack { 1 ≤ self.old.slack }
+        requires low { self.old.net.next.list < 2 ^ 60 }
+        ensures starts { OnOk result (StartsHeld self.old direction cancel made.now self.new) }
+        ensures number { IfOk result (λ n. n ≡ list_no self.old.net.next.list) }
+        ensures no_list { IsErr result ↔ (live_count self.old.pool ≡ self.old.pool.size) }
+        ensures unchanged { OnErr result (self.new ≡ self.old) }
+    {
+        let label = Label {
+            number: ListNo(self.next),
+            owner: self.caller,
+            config: ConfigNo(self.modules.config()),
+            direction,
+            cancel,
+            origin: Origin::Root,
+        };
+        let list = self.pool.issue(label, made)?;
+        self.issue_held(label, span);
+        self.forward(list);
+        Ok(label.number)
     }
 
     /// Takes a list of the called module's own pool home.

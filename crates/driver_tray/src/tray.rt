@@ -4,18 +4,19 @@ ghost use Rattle.agenda_items.specs.Views.{kept_as};
 ghost use Rattle.agenda_items.specs.declared.Item.{Item};
 ghost use Rattle.agenda_items.specs.declared.Carried.TheVariants as carried;
 ghost use Rattle.buffer_pools.specs.Views.{Fits};
+ghost use Rattle.journal_types.specs.declared.Row.TheVariants as row;
 ghost use Rattle.frame_arena.specs.Spans.{frames_at, SpanWithin};
 ghost use Rattle.flat_journal.specs.Rooms.{Covers};
 ghost use Rattle.flat_journal.specs.Shown.{row_of};
 ghost use Rattle.flat_journal.specs.Within.{RowWithin};
-ghost use Rattle.driver_tray.specs.Tray.{TrayView, IsNew, written, framed, issued, queued, issue_row, IsSteady};
+ghost use Rattle.driver_tray.specs.Tray.{TrayView, IsNew, written, framed, issued, passed, issue_row, IsSteady};
 
 use crate::telling::Telling;
-use agenda_items::{Carried, Item};
-use buffer_pools::{BufferList, KeptList, Label, ListPool};
+use agenda_items::{Carried, Item, dequeue, enqueue};
+use buffer_pools::{BufferList, Label, ListPool};
 use flat_journal::{FlatJournal, FlatRow, Room};
 use frame_arena::FrameSpan;
-use journal_types::StackHead;
+use journal_types::{PassWay, StackHead, Target};
 use ndis_base::{Frame, ModuleId, OutOfMemory};
 use plain_state::PlainModules;
 use plain_state::modules::first_modules;
@@ -49,16 +50,6 @@ impl Model for Tray {
     ghost view = { tray_view };
 
     ghost invariant = { IsTray };
-}
-
-fn taken_out(carried: Carried) -> Item
-    ensures { carried ≡ kept_as result }
-{
-    match carried {
-        Carried::List(kept) => Item::List(kept.into_list()),
-        Carried::Status(status) => Item::Status(status),
-        Carried::Answer(answer) => Item::Answer(answer),
-    }
 }
 
 impl Tray {
@@ -111,14 +102,26 @@ impl Tray {
         self.journal.write_row(row);
     }
 
-    /// Puts a list behind what is on its way.
-    pub fn enqueue(&mut self, list: BufferList)
+    fn enqueue(&mut self, list: BufferList, way: PassWay, to: Target)
         requires { 1 ≤ self.old.slack }
-        ensures { self.new ≡ queued self.old list }
+        ensures { self.new ≡ record self.old { queue = self.old.queue ++ carried.List list way to ∷ []; slack = self.old.slack - 1 } }
     {
-        self.queue
-            .push_back_reserved(Carried::List(KeptList::of(list)));
+        enqueue(&mut self.queue, list, way, to);
         self.slack -= 1;
+    }
+
+    /// Writes that a list is passed, and puts it behind what is on its way.
+    pub fn pass(&mut self, list: BufferList, way: PassWay, to: Target)
+        requires room { 1 ≤ self.old.room.rows }
+        requires slack { 1 ≤ self.old.slack }
+        ensures { self.new ≡ passed self.old list (row.Pass list.label.number way to) }
+    {
+        self.write(FlatRow::Pass {
+            list: list.number(),
+            way,
+            to,
+        });
+        self.enqueue(list, way, to);
     }
 
     /// Takes the first thing that is on its way.
@@ -126,10 +129,7 @@ impl Tray {
         ensures none { result ≡ None → (self.new ≡ self.old) × (self.old.queue ≡ []) }
         ensures some { (i : Item) → result ≡ Some i → self.old ≡ record self.new { queue = kept_as i ∷ self.new.queue } }
     {
-        match self.queue.pop_front() {
-            Some(carried) => Some(taken_out(carried)),
-            None => None,
-        }
+        dequeue(&mut self.queue)
     }
 
     /// The module that is called.
@@ -163,6 +163,17 @@ impl Tray {
         ensures shown { frames_at self.new.payloads.frames result ≡ frames.now }
     {
         self.journal.push_frames(frames)
+    }
+
+    /// Adds the frames of a list that rows can show, and gives their span.
+    pub fn hold_list(&mut self, list: &BufferList) -> FrameSpan
+        requires frame_room { length list.now.frames ≤ self.old.room.frames }
+        requires byte_room { sum_by length list.now.frames ≤ self.old.room.bytes }
+        ensures tray { self.new ≡ framed self.old list.now.frames }
+        ensures within { SpanWithin self.new.payloads.frames result }
+        ensures shown { frames_at self.new.payloads.frames result ≡ list.now.frames }
+    {
+        self.hold(list, 0)
     }
 
     /// Writes the Issue row of a list whose frames the journal has.

@@ -59,7 +59,7 @@ all_freed pools p l ls frees mine housed =
 
 carried_freed : (pools : ModuleId → PoolView) (p : PoolView) (l : ListView) → Frees (pools l.label.owner) l p → IsHoused pools l
     → (c : Carried) → not (carries l.label.number.0 c) ≡ true → IsCarriedHome pools c → IsCarriedHome (put_at l.label.owner p pools) c
-carried_freed pools p l frees mine (a_list o) other h = housed_freed pools p l o frees mine (other_number o.label.number.0 l.label.number.0 other) h
+carried_freed pools p l frees mine (a_list o way to) other h = housed_freed pools p l o frees mine (other_number o.label.number.0 l.label.number.0 other) h
 carried_freed pools p l frees mine (a_status s) other h = tt
 carried_freed pools p l frees mine (an_answer a) other h = tt
 
@@ -79,7 +79,7 @@ shows_freed ts h l p s mine frees =
     }
 
 carried_issued : (pools : ModuleId → PoolView) (m : ModuleId) (p : PoolView) (l : ListView) → Issues (pools m) l p → (c : Carried) → IsCarriedHome pools c → IsCarriedHome (put_at m p pools) c
-carried_issued pools m p l issues (a_list o) h = housed_issued pools m p l o issues h
+carried_issued pools m p l issues (a_list o way to) h = housed_issued pools m p l o issues h
 carried_issued pools m p l issues (a_status s) h = tt
 carried_issued pools m p l issues (an_answer a) h = tt
 

@@ -134,13 +134,13 @@ crossed_out net message out_way.Up frames h a =
 -- Rows by which a list goes to another place: from wherever it is in hand.
 
 pub passed : (net : Net) (l : ListView) (way : PassWay) (to : Target) (h : Hands) → Agrees net h → IsMine net h l
-    → Agrees (after net (row.Pass l.label.number way to)) (queued (a_list l) (taken l.label.number.0 h))
+    → Agrees (after net (row.Pass l.label.number way to)) (queued (a_list l way to) (taken l.label.number.0 h))
 passed net l way to h a mine =
     let n : ℕ = l.label.number.0 in
     let y : LiveList = record mine.x { stand = stand.Passed way to; crossed = None } in
-    agrees_of (after net (row.Pass l.label.number way to)) (without n net.things ++ thing.List y ∷ []) (queued (a_list l) (taken n h))
+    agrees_of (after net (row.Pass l.label.number way to)) (without n net.things ++ thing.List y ∷ []) (queued (a_list l way to) (taken n h))
     (ap (λ o. at_end (without n net.things) (as_passed way to o)) mine.live)
-    (shows_queued (without n net.things) (taken n h) y l (shows_taken n net.things h (shows_of a)) refl mine.same mine.housed)
+    (shows_queued (without n net.things) (taken n h) y l way to (shows_taken n net.things h (shows_of a)) refl mine.same mine.housed)
     (counted_moved n net.things mine.x y h.pools a.numbered.apart mine.live refl a.counts)
     (numbered_after net (row.Pass l.label.number way to) tt a.numbered)
 
@@ -255,7 +255,7 @@ housed_elsewhere : (pools : ModuleId → PoolView) (m : ModuleId) (p : PoolView)
 housed_elsewhere pools m p none o housed = housed_still pools m p o (λ is. absurd (none_housed (pools m) o none is)) housed
 
 carried_elsewhere : (pools : ModuleId → PoolView) (m : ModuleId) (p : PoolView) → live_count (pools m) ≡ 0 → (c : Carried) → IsCarriedHome pools c → IsCarriedHome (put_at m p pools) c
-carried_elsewhere pools m p none (a_list o) housed = housed_elsewhere pools m p none o housed
+carried_elsewhere pools m p none (a_list o way to) housed = housed_elsewhere pools m p none o housed
 carried_elsewhere pools m p none (a_status s) housed = tt
 carried_elsewhere pools m p none (an_answer x) housed = tt
 
@@ -276,7 +276,7 @@ repooled net m p h a none empty =
 
 -- the same in hand, module by module
 carried_same : (h k : Hands) → IsSame h k → (c : Carried) → IsCarriedHome h.pools c → IsCarriedHome k.pools c
-carried_same h k same (a_list o) housed = subst (λ p. IsOf p o) (same.pools o.label.owner) housed
+carried_same h k same (a_list o way to) housed = subst (λ p. IsOf p o) (same.pools o.label.owner) housed
 carried_same h k same (a_status s) housed = tt
 carried_same h k same (an_answer x) housed = tt
 

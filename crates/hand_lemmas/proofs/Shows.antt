@@ -5,6 +5,8 @@ use Rattle.std.proofs.lemmas.List.{map-append, append-nil}
 use Rattle.std.proofs.lemmas.List.Elements.{All-push, All-filter}
 use Rattle.ndis_base.specs.declared.ModuleId.{ModuleId}
 use Rattle.buffer_pools.specs.Views.{ListView}
+use Rattle.journal_types.specs.declared.PassWay.{PassWay}
+use Rattle.journal_types.specs.declared.Target.{Target}
 use Rattle.stack_rules.specs.declared.Stand.{Stand}
 use Rattle.stack_rules.specs.declared.Stand.TheVariants as stand
 use Rattle.stack_rules.specs.declared.LiveList.{LiveList}
@@ -41,7 +43,7 @@ pub record Shows (ts : List Thing) (h : Hands) : Type 0 where
 
 -- a list of this number
 abbrev shows_list : ℕ → Seen → Bool
-shows_list n (see_list c) = c.list.0 == n
+shows_list n (see_list c at) = c.list.0 == n
 shows_list n (see_status s) = false
 shows_list n (see_answer a) = false
 
@@ -51,7 +53,7 @@ list_in_state n (thing.Status s) = refl
 list_in_state n (thing.Answer a) = refl
 
 list_in_hand : (n : ℕ) (c : Carried) → not (carries n c) ≡ not (shows_list n (carried c))
-list_in_hand n (a_list l) = refl
+list_in_hand n (a_list l way to) = refl
 list_in_hand n (a_status s) = refl
 list_in_hand n (an_answer a) = refl
 
@@ -104,18 +106,20 @@ passed_not_kept m (stand.Kept k) e = cc
 passed_not_kept m (stand.Passed way to) e = refl
 
 -- it is on its way
-pub shows_queued : (ts : List Thing) (h : Hands) (y : LiveList) (l : ListView) → Shows ts h → is_passed y.stand ≡ true → in_state y ≡ in_hand l → IsHoused h.pools l
-    → Shows (ts ++ thing.List y ∷ []) (queued (a_list l) h)
-shows_queued ts h y l s passes same housed = record {
-  queue_is =
-      pushed_match seen carried (filter is_away ts) h.queue (thing.List y) (a_list l) s.queue_is (ap see_list (sym same))
-      ∙ ap (map seen) (sym (push_yes is_away ts (thing.List y) passes));
-  loose_is = s.loose_is ∙ ap (map in_state) (sym (placed_no is_loose ts y (passed_not_loose y.stand passes)));
-  kept_is = λ m. s.kept_is m ∙ ap (map in_state) (sym (placed_no (is_kept_by m) ts y (passed_not_kept m y.stand passes)));
-  queue_housed = All-push (IsCarriedHome h.pools) h.queue (a_list l) s.queue_housed housed;
-  loose_housed = s.loose_housed;
-  kept_housed = s.kept_housed;
-}
+pub shows_queued : (ts : List Thing) (h : Hands) (y : LiveList) (l : ListView) (way : PassWay) (to : Target) → Shows ts h → y.stand ≡ stand.Passed way to → in_state y ≡ in_hand l → IsHoused h.pools l
+    → Shows (ts ++ thing.List y ∷ []) (queued (a_list l way to) h)
+shows_queued ts h y l way to s is same housed =
+    let passes : is_passed y.stand ≡ true = ap is_passed is in
+    record {
+      queue_is =
+          pushed_match seen carried (filter is_away ts) h.queue (thing.List y) (a_list l way to) s.queue_is (ap (λ c. see_list c (stand.Passed way to)) (sym same) ∙ ap (see_list (in_state y)) (sym is))
+          ∙ ap (map seen) (sym (push_yes is_away ts (thing.List y) passes));
+      loose_is = s.loose_is ∙ ap (map in_state) (sym (placed_no is_loose ts y (passed_not_loose y.stand passes)));
+      kept_is = λ m. s.kept_is m ∙ ap (map in_state) (sym (placed_no (is_kept_by m) ts y (passed_not_kept m y.stand passes)));
+      queue_housed = All-push (IsCarriedHome h.pools) h.queue (a_list l way to) s.queue_housed housed;
+      loose_housed = s.loose_housed;
+      kept_housed = s.kept_housed;
+    }
 
 -- a module keeps it
 pub kept_elsewhere : (m k : ModuleId) → same_module k m ≡ false → same_module m k ≡ false
@@ -177,7 +181,10 @@ quiet_away n f quiet (thing.Answer a) = refl
 
 quiet_seen : (n : ℕ) (f : LiveList → LiveList) → IsQuiet f → (t : Thing) → seen (with_list n f t) ≡ seen t
 quiet_seen n f quiet (thing.List l) =
-    elim (l.list.0 == n) as (λ b. seen (cond b (thing.List (f l)) (thing.List l)) ≡ see_list (in_state l)) [ true ↦ ap see_list (quiet.same l) | false ↦ refl ]
+    elim (l.list.0 == n) as (λ b. seen (cond b (thing.List (f l)) (thing.List l)) ≡ see_list (in_state l) l.stand) [
+      | true ↦ ap (λ c. see_list c (f l).stand) (quiet.same l) ∙ ap (see_list (in_state l)) (quiet.stand l)
+      | false ↦ refl
+    ]
 quiet_seen n f quiet (thing.Status s) = refl
 quiet_seen n f quiet (thing.Answer a) = refl
 
@@ -219,13 +226,13 @@ shows_changed n f quiet ts h s = record {
 -- a status of this number
 abbrev shows_status : ℕ → Seen → Bool
 shows_status n (see_status s) = s.number.0 == n
-shows_status n (see_list c) = false
+shows_status n (see_list c at) = false
 shows_status n (see_answer a) = false
 
 -- an answer to this request
 abbrev shows_answer : ℕ → Seen → Bool
 shows_answer parent (see_answer a) = a.parent.0 == parent
-shows_answer parent (see_list c) = false
+shows_answer parent (see_list c at) = false
 shows_answer parent (see_status s) = false
 
 status_in_state : (n : ℕ) (t : Thing) → not (is_status n t) ≡ not (shows_status n (seen t))
@@ -234,7 +241,7 @@ status_in_state n (thing.Status s) = refl
 status_in_state n (thing.Answer a) = refl
 
 status_in_hand : (n : ℕ) (c : Carried) → not (carries_status n c) ≡ not (shows_status n (carried c))
-status_in_hand n (a_list l) = refl
+status_in_hand n (a_list l way to) = refl
 status_in_hand n (a_status s) = refl
 status_in_hand n (an_answer a) = refl
 
@@ -244,7 +251,7 @@ answer_in_state n (thing.Status s) = refl
 answer_in_state n (thing.Answer a) = refl
 
 answer_in_hand : (n : ℕ) (c : Carried) → not (carries_answer n c) ≡ not (shows_answer n (carried c))
-answer_in_hand n (a_list l) = refl
+answer_in_hand n (a_list l way to) = refl
 answer_in_hand n (a_status s) = refl
 answer_in_hand n (an_answer a) = refl
 

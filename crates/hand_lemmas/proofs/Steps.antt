@@ -36,19 +36,19 @@ put_same m x y f g e h k = elim (same_module k m) as (λ b. cond b x (f k) ≡ c
 
 -- From the front of the queue.
 
-pub passed_first : (net : Net) (l : ListView) (way : PassWay) (to : Target) (h : Hands) (queue : List Carried) → Agrees net h → h.queue ≡ a_list l ∷ queue
-    → Agrees (after net (row.Pass l.label.number way to)) (record h { queue = queue ++ a_list l ∷ [] })
-passed_first net l way to h queue a e =
-    let t = taken_first net h l queue a e in
-    agrees_same (after net (row.Pass l.label.number way to)) (queued (a_list l) (taken l.label.number.0 h)) (record h { queue = queue ++ a_list l ∷ [] })
-    (record { queue = ap (λ q. q ++ a_list l ∷ []) t.queue_is; loose = t.loose_is; kept = t.kept_is; pools = λ m. refl })
-    (passed net l way to h a (next_list net h l queue a e).mine)
+pub passed_first : (net : Net) (l : ListView) (was : PassWay) (from : Target) (way : PassWay) (to : Target) (h : Hands) (queue : List Carried) → Agrees net h → h.queue ≡ a_list l was from ∷ queue
+    → Agrees (after net (row.Pass l.label.number way to)) (record h { queue = queue ++ a_list l way to ∷ [] })
+passed_first net l was from way to h queue a e =
+    let t = taken_first net h l was from queue a e in
+    agrees_same (after net (row.Pass l.label.number way to)) (queued (a_list l way to) (taken l.label.number.0 h)) (record h { queue = queue ++ a_list l way to ∷ [] })
+    (record { queue = ap (λ q. q ++ a_list l way to ∷ []) t.queue_is; loose = t.loose_is; kept = t.kept_is; pools = λ m. refl })
+    (passed net l way to h a (next_list net h l was from queue a e).mine)
 
-pub kept_first : (net : Net) (l : ListView) (m : ModuleId) (h : Hands) (queue : List Carried) → Agrees net h → h.queue ≡ a_list l ∷ queue
+pub kept_first : (net : Net) (l : ListView) (was : PassWay) (from : Target) (m : ModuleId) (h : Hands) (queue : List Carried) → Agrees net h → h.queue ≡ a_list l was from ∷ queue
     → Agrees (after net (row.Keep l.label.number m)) (record h { queue = queue; kept = put_at m (h.kept m ++ l ∷ []) h.kept })
-kept_first net l m h queue a e =
+kept_first net l was from m h queue a e =
     let n : ℕ = l.label.number.0 in
-    let t = taken_first net h l queue a e in
+    let t = taken_first net h l was from queue a e in
     agrees_same (after net (row.Keep l.label.number m)) (kept_at m l (taken n h)) (record h { queue = queue; kept = put_at m (h.kept m ++ l ∷ []) h.kept })
     (record {
       queue = t.queue_is;
@@ -56,16 +56,16 @@ kept_first net l m h queue a e =
       kept = put_same m (out n (h.kept m) ++ l ∷ []) (h.kept m ++ l ∷ []) (λ k. out n (h.kept k)) h.kept (ap (λ ls. ls ++ l ∷ []) (t.kept_is m)) t.kept_is;
       pools = λ k. refl;
     })
-    (kept net l m h a (next_list net h l queue a e).mine)
+    (kept net l m h a (next_list net h l was from queue a e).mine)
 
-pub homed_first : (net : Net) (l : ListView) (owner : ModuleId) (status : ListStatus) (p : PoolView) (h : Hands) (queue : List Carried) → Agrees net h → h.queue ≡ a_list l ∷ queue
+pub homed_first : (net : Net) (l : ListView) (was : PassWay) (from : Target) (owner : ModuleId) (status : ListStatus) (p : PoolView) (h : Hands) (queue : List Carried) → Agrees net h → h.queue ≡ a_list l was from ∷ queue
     → Frees (h.pools l.label.owner) l p → Agrees (after net (row.Home l.label.number owner status)) (record h { queue = queue; pools = put_at l.label.owner p h.pools })
-homed_first net l owner status p h queue a e frees =
+homed_first net l was from owner status p h queue a e frees =
     let n : ℕ = l.label.number.0 in
-    let t = taken_first net h l queue a e in
+    let t = taken_first net h l was from queue a e in
     agrees_same (after net (row.Home l.label.number owner status)) (pooled l.label.owner p (taken n h)) (record h { queue = queue; pools = put_at l.label.owner p h.pools })
     (record { queue = t.queue_is; loose = t.loose_is; kept = t.kept_is; pools = λ m. refl })
-    (homed net l owner status p h a (next_list net h l queue a e).mine frees)
+    (homed net l owner status p h a (next_list net h l was from queue a e).mine frees)
 
 -- From among those that a module keeps, or those that were issued.
 
@@ -132,11 +132,11 @@ taken_kept net h m front l back a e =
     }
 
 pub passed_kept : (net : Net) (m : ModuleId) (l : ListView) (way : PassWay) (to : Target) (h : Hands) (front back : List ListView) → Agrees net h → h.kept m ≡ front ++ l ∷ back
-    → Agrees (after net (row.Pass l.label.number way to)) (record h { queue = h.queue ++ a_list l ∷ []; kept = put_at m (front ++ back) h.kept })
+    → Agrees (after net (row.Pass l.label.number way to)) (record h { queue = h.queue ++ a_list l way to ∷ []; kept = put_at m (front ++ back) h.kept })
 passed_kept net m l way to h front back a e =
     let t = taken_kept net h m front l back a e in
-    agrees_same (after net (row.Pass l.label.number way to)) (queued (a_list l) (taken l.label.number.0 h)) (record h { queue = h.queue ++ a_list l ∷ []; kept = put_at m (front ++ back) h.kept })
-    (record { queue = ap (λ q. q ++ a_list l ∷ []) t.queue_is; loose = t.loose_is; kept = t.kept_is; pools = λ k. refl })
+    agrees_same (after net (row.Pass l.label.number way to)) (queued (a_list l way to) (taken l.label.number.0 h)) (record h { queue = h.queue ++ a_list l way to ∷ []; kept = put_at m (front ++ back) h.kept })
+    (record { queue = ap (λ q. q ++ a_list l way to ∷ []) t.queue_is; loose = t.loose_is; kept = t.kept_is; pools = λ k. refl })
     (passed net l way to h a (kept_there net h m front l back a e).mine)
 
 pub homed_kept : (net : Net) (m : ModuleId) (l : ListView) (owner : ModuleId) (status : ListStatus) (p : PoolView) (h : Hands) (front back : List ListView) → Agrees net h → h.kept m ≡ front ++ l ∷ back
@@ -174,11 +174,11 @@ taken_loose net h front l back a e =
     }
 
 pub passed_loose : (net : Net) (l : ListView) (way : PassWay) (to : Target) (h : Hands) (front back : List ListView) → Agrees net h → h.loose ≡ front ++ l ∷ back
-    → Agrees (after net (row.Pass l.label.number way to)) (record h { queue = h.queue ++ a_list l ∷ []; loose = front ++ back })
+    → Agrees (after net (row.Pass l.label.number way to)) (record h { queue = h.queue ++ a_list l way to ∷ []; loose = front ++ back })
 passed_loose net l way to h front back a e =
     let t = taken_loose net h front l back a e in
-    agrees_same (after net (row.Pass l.label.number way to)) (queued (a_list l) (taken l.label.number.0 h)) (record h { queue = h.queue ++ a_list l ∷ []; loose = front ++ back })
-    (record { queue = ap (λ q. q ++ a_list l ∷ []) t.queue_is; loose = t.loose_is; kept = t.kept_is; pools = λ k. refl })
+    agrees_same (after net (row.Pass l.label.number way to)) (queued (a_list l way to) (taken l.label.number.0 h)) (record h { queue = h.queue ++ a_list l way to ∷ []; loose = front ++ back })
+    (record { queue = ap (λ q. q ++ a_list l way to ∷ []) t.queue_is; loose = t.loose_is; kept = t.kept_is; pools = λ k. refl })
     (passed net l way to h a (loose_there net h front l back a e).mine)
 
 pub homed_loose : (net : Net) (l : ListView) (owner : ModuleId) (status : ListStatus) (p : PoolView) (h : Hands) (front back : List ListView) → Agrees net h → h.loose ≡ front ++ l ∷ back

@@ -6,7 +6,10 @@ use Rattle.std.proofs.lemmas.List.Sums.{length-filter}
 use Rattle.std.proofs.lemmas.List.Elements.{All-head, All-tail}
 use Rattle.ndis_base.specs.declared.ModuleId.{ModuleId}
 use Rattle.buffer_pools.specs.Views.{ListView, PoolView, live_count}
+use Rattle.journal_types.specs.declared.PassWay.{PassWay}
+use Rattle.journal_types.specs.declared.Target.{Target}
 use Rattle.stack_rules.specs.declared.Stand.{Stand}
+use Rattle.stack_rules.specs.declared.Stand.TheVariants as stand
 use Rattle.stack_rules.specs.declared.LiveList.{LiveList}
 use Rattle.stack_rules.specs.declared.StatusAway.{StatusAway}
 use Rattle.stack_rules.specs.declared.Answered.{Answered}
@@ -64,19 +67,20 @@ pub none_away : (net : Net) (h : Hands) → Agrees net h → h.queue ≡ [] → 
 none_away net h a none = find_none is_away net.things (none_in (agenda net) (ap (map carried) (sym none) ∙ a.queue_is))
 
 -- a list in front: it is on its way, the first of all things, and live by its number
-pub record IsNext (net : Net) (h : Hands) (l : ListView) : Type 0 where
+pub record IsNext (net : Net) (h : Hands) (l : ListView) (way : PassWay) (to : Target) : Type 0 where
   pub x : LiveList
   pub rest : List Thing
   pub first : agenda_first net ≡ Some (thing.List x)
   pub agenda_is : agenda net ≡ thing.List x ∷ rest
+  pub stand : x.stand ≡ stand.Passed way to
   pub passed : is_passed x.stand ≡ true
   pub mine : IsMine net h l
   pub is : mine.x ≡ x
 
-list_seen : (t : Thing) (l : ListView) → seen t ≡ see_list (in_hand l) → (x : LiveList) × (t ≡ thing.List x) × (in_state x ≡ in_hand l)
-list_seen (thing.List x) l e = let same : in_state x ≡ in_hand l = cc in (x, refl, same)
-list_seen (thing.Status s) l e = cc
-list_seen (thing.Answer a) l e = cc
+list_seen : (t : Thing) (l : ListView) (s : Stand) → seen t ≡ see_list (in_hand l) s → (x : LiveList) × (t ≡ thing.List x) × (in_state x ≡ in_hand l) × (x.stand ≡ s)
+list_seen (thing.List x) l s e = let same : in_state x ≡ in_hand l = cc in let at : x.stand ≡ s = cc in (x, refl, same, at)
+list_seen (thing.Status t) l s e = cc
+list_seen (thing.Answer a) l s e = cc
 
 status_seen : (t : Thing) (s : StatusAway) → seen t ≡ see_status s → t ≡ thing.Status s
 status_seen (thing.List x) s e = cc
@@ -88,30 +92,23 @@ answer_seen (thing.List x) a e = cc
 answer_seen (thing.Status s) a e = cc
 answer_seen (thing.Answer a') a e = let same : a' ≡ a = cc in ap thing.Answer same
 
-passing : (p : Thing → Bool) (ts : List Thing) (t : Thing) (rest : List Thing) → filter p ts ≡ t ∷ rest → p t ≡ true
-passing p [] t rest e = cc
-passing p (u ∷ ts) t rest e = by_case p u ts t rest (p u) refl e (passing p ts t rest)
-  where
-    by_case : (p : Thing → Bool) (u : Thing) (ts : List Thing) (t : Thing) (rest : List Thing) (b : Bool) → p u ≡ b → cond b (u ∷ filter p ts) (filter p ts) ≡ t ∷ rest
-        → (filter p ts ≡ t ∷ rest → p t ≡ true) → p t ≡ true
-    by_case p u ts t rest true f e more = let same : u ≡ t = cc in ap p (sym same) ∙ f
-    by_case p u ts t rest false f e more = more e
-
-pub next_list : (net : Net) (h : Hands) (l : ListView) (queue : List Carried) → Agrees net h → h.queue ≡ a_list l ∷ queue → IsNext net h l
-next_list net h l queue a e =
-    let f = first_in (agenda net) (a_list l) queue (ap (map carried) (sym e) ∙ a.queue_is) in
-    let s = list_seen f.t l f.same in
+pub next_list : (net : Net) (h : Hands) (l : ListView) (way : PassWay) (to : Target) (queue : List Carried) → Agrees net h → h.queue ≡ a_list l way to ∷ queue → IsNext net h l way to
+next_list net h l way to queue a e =
+    let f = first_in (agenda net) (a_list l way to) queue (ap (map carried) (sym e) ∙ a.queue_is) in
+    let s = list_seen f.t l (stand.Passed way to) f.same in
     let is : agenda net ≡ thing.List s.0 ∷ f.rest = f.is ∙ ap (λ t. t ∷ f.rest) s.1 in
-    let number : s.0.list.0 ≡ l.label.number.0 = ap (λ (c : Common). c.list.0) s.2 in
+    let same : in_state s.0 ≡ in_hand l = s.2 in
+    let number : s.0.list.0 ≡ l.label.number.0 = ap (λ (c : Common). c.list.0) same in
     let live : list_of s.0.list.0 (lists net.things) ≡ Some s.0 = first_live net.things s.0 f.rest a.numbered.apart is in
-    let housed : All (IsCarriedHome h.pools) (a_list l ∷ queue) = subst (All (IsCarriedHome h.pools)) e a.queue_housed in
+    let housed : All (IsCarriedHome h.pools) (a_list l way to ∷ queue) = subst (All (IsCarriedHome h.pools)) e a.queue_housed in
     record {
       x = s.0;
       rest = f.rest;
       first = find_first is_away net.things (thing.List s.0) f.rest is;
       agenda_is = is;
-      passed = passing is_away net.things (thing.List s.0) f.rest is;
-      mine = record { x = s.0; live = ap (λ n. list_of n (lists net.things)) (sym number) ∙ live; same = s.2; housed = All-head (IsCarriedHome h.pools) (a_list l) queue housed };
+      stand = s.3;
+      passed = ap is_passed s.3;
+      mine = record { x = s.0; live = ap (λ n. list_of n (lists net.things)) (sym number) ∙ live; same = same; housed = All-head (IsCarriedHome h.pools) (a_list l way to) queue housed };
       is = refl;
     }
 
@@ -228,17 +225,17 @@ pub record IsTakenFirst (h : Hands) (l : ListView) (queue : List Carried) : Type
   pub loose_is : out l.label.number.0 h.loose ≡ h.loose
   pub kept_is : (m : ModuleId) → out l.label.number.0 (h.kept m) ≡ h.kept m
 
-pub taken_first : (net : Net) (h : Hands) (l : ListView) (queue : List Carried) → Agrees net h → h.queue ≡ a_list l ∷ queue → IsTakenFirst h l queue
-taken_first net h l queue a e =
+pub taken_first : (net : Net) (h : Hands) (l : ListView) (way : PassWay) (to : Target) (queue : List Carried) → Agrees net h → h.queue ≡ a_list l way to ∷ queue → IsTakenFirst h l queue
+taken_first net h l way to queue a e =
     let n : ℕ = l.label.number.0 in
-    let next = next_list net h l queue a e in
+    let next = next_list net h l way to queue a e in
     let x : LiveList = next.mine.x in
     let s = shows_taken n net.things h (shows_of a) in
     let stands : is_passed x.stand ≡ true = ap (λ (y : LiveList). is_passed y.stand) next.is ∙ next.passed in
     let apart : IsApart (lists net.things) = a.numbered.apart in
     let kept : Carried → Bool = λ c. not (carries n c) in
-    let skipped : filter kept (a_list l ∷ queue) ≡ filter kept queue =
-    cond-false (not (l.label.number.0 == n)) (a_list l ∷ filter kept queue) (filter kept queue) (ap not (eq-eqb l.label.number.0 n refl)) in
+    let skipped : filter kept (a_list l way to ∷ queue) ≡ filter kept queue =
+    cond-false (not (l.label.number.0 == n)) (a_list l way to ∷ filter kept queue) (filter kept queue) (ap not (eq-eqb l.label.number.0 n refl)) in
     let left : length (filter kept h.queue) ≡ length (filter is_away (without n net.things)) = shown_length seen carried (filter is_away (without n net.things)) (filter kept h.queue) s.queue_is in
     let left_is : length (filter kept h.queue) ≡ length (filter kept queue) = ap length (ap (filter kept) e ∙ skipped) in
     let all : length h.queue ≡ length (agenda net) = shown_length seen carried (agenda net) h.queue a.queue_is in
@@ -253,7 +250,7 @@ taken_first net h l queue a e =
       kept_is = λ m. out_same (is_kept_by m) n net.things x (h.kept m) apart next.mine.live (passed_not_kept m x.stand stands) (a.kept_is m) (s.kept_is m);
     }
   where
-    one_more : (queue : List Carried) → length (a_list l ∷ queue) ≡ length queue + 1
+    one_more : (queue : List Carried) → length (a_list l way to ∷ queue) ≡ length queue + 1
     one_more queue = omega arith
 
 -- a pool is full where its module owns as many lists as it has

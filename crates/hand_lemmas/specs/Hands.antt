@@ -41,21 +41,21 @@ in_hand l = record { list = l.label.number; owner = l.label.owner; direction = l
 abbrev pub in_state : LiveList → Common
 in_state l = record { list = l.list; owner = l.owner; direction = l.direction; cancel = l.cancel; origin = l.origin; frames = l.frames }
 
--- what both sides show of something on its way
+-- what both sides show of something on its way; of a list also which way it is passed and to where
 pub data Seen : Type 0 where
-  see_list : Common → Seen
+  see_list : Common → Stand → Seen
   see_status : StatusAway → Seen
   see_answer : Answered → Seen
 
 -- what something on its way shows, in hand
 abbrev pub carried : Carried → Seen
-carried (a_list l) = see_list (in_hand l)
+carried (a_list l way to) = see_list (in_hand l) (stand.Passed way to)
 carried (a_status s) = see_status s
 carried (an_answer a) = see_answer a
 
 -- what it shows, in the state
 abbrev pub seen : Thing → Seen
-seen (thing.List l) = see_list (in_state l)
+seen (thing.List l) = see_list (in_state l) l.stand
 seen (thing.Status s) = see_status s
 seen (thing.Answer a) = see_answer a
 
@@ -81,7 +81,7 @@ IsHoused pools l = IsOf (pools l.label.owner) l
 
 -- so is a list that is on its way; statuses and answers are of no pool
 abbrev pub IsCarriedHome : (ModuleId → PoolView) → Carried → Type 0
-IsCarriedHome pools (a_list l) = IsHoused pools l
+IsCarriedHome pools (a_list l way to) = IsHoused pools l
 IsCarriedHome pools (a_status s) = Unit {0}
 IsCarriedHome pools (an_answer a) = Unit {0}
 
@@ -105,20 +105,20 @@ out n ls = filter (λ l. not (l.label.number.0 == n)) ls
 
 -- the list of this number
 abbrev pub carries : ℕ → Carried → Bool
-carries n (a_list l) = l.label.number.0 == n
+carries n (a_list l way to) = l.label.number.0 == n
 carries n (a_status s) = false
 carries n (an_answer a) = false
 
 -- the status of this number
 abbrev pub carries_status : ℕ → Carried → Bool
 carries_status n (a_status s) = s.number.0 == n
-carries_status n (a_list l) = false
+carries_status n (a_list l way to) = false
 carries_status n (an_answer a) = false
 
 -- the answer to this request
 abbrev pub carries_answer : ℕ → Carried → Bool
 carries_answer parent (an_answer a) = a.parent.0 == parent
-carries_answer parent (a_list l) = false
+carries_answer parent (a_list l way to) = false
 carries_answer parent (a_status s) = false
 
 -- the list of this number is taken from where it is
