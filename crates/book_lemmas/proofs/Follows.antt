@@ -8,7 +8,8 @@ use Rattle.journal_types.specs.declared.Turn.{Turn}
 use Rattle.stack_rules.specs.Net.{Net, start, seen, told, after_rows, after_turn, after_turns}
 use Rattle.stack_rules.specs.Sound.{Next, SoundFrom}
 use Rattle.book_lemmas.specs.Between.{IsBetween}
-use Rattle.book_lemmas.specs.Follows.{begun_by, Follows}
+use Rattle.driver_tray.specs.Tray.{begun_by}
+use Rattle.book_lemmas.specs.Follows.{Follows}
 use Rattle.book_lemmas.proofs.Goes.{after_rows-append}
 
 -- more rows are written

@@ -11,7 +11,8 @@ use Rattle.rule_basics.proofs.Counts.{count_by-append}
 use Rattle.book_lemmas.specs.Views.{BookView, HeldView}
 use Rattle.driver_views.specs.States.{Record}
 use Rattle.book_lemmas.specs.Did.{calls_now, calls_in, logs_in, IsServed, Did}
-use Rattle.book_lemmas.specs.Turns.{Goes}
+use Rattle.book_lemmas.specs.Turns.{Goes, HasUsed, row_frames, is_way}
+use Rattle.driver_tray.specs.Tray.{TrayView}
 
 pub after_rows-append : (net : Net) (xs ys : List Row) → after_rows net (xs ++ ys) ≡ after_rows (after_rows net xs) ys
 after_rows-append net [] ys = refl
@@ -54,16 +55,27 @@ did_then seats a b c net xs ys s t = record {
   shelved = λ place none. record { calls = λ what. (t.shelved place none).calls what ∙ (s.shelved place none).calls what; log = (t.shelved place none).log ∙ (s.shelved place none).log };
 }
 
+pub used_none : (t : TrayView) → HasUsed t [] t
+used_none t = record { rows_used = omega arith; frames = omega arith; bytes = omega arith; slack = omega arith; turns = refl }
+
+pub used_then : (a b c : TrayView) (xs ys : List Row) → HasUsed a xs b → HasUsed b ys c → HasUsed a (xs ++ ys) c
+used_then a b c xs ys g k = record {
+  rows_used = omega (arith, g.rows_used, k.rows_used, length-append xs ys);
+  frames = omega (arith, g.frames, k.frames, sum_by-append row_frames xs ys);
+  bytes = omega (arith, g.bytes, k.bytes, sum_by-append row_bytes xs ys);
+  slack = omega (arith, g.slack, k.slack, count_by-append is_way xs ys);
+  turns = k.turns ∙ g.turns;
+}
+
 pub goes_none : (seats : List (ℕ × ℕ)) (b : BookView) → Goes seats b b []
 goes_none seats b = record {
   head = refl;
   turns = refl;
   told_by = refl;
   net = refl;
-  rows = sym (append-nil b.rows);
-  room = omega arith;
-  bytes = omega arith;
-  did = did_none seats b.held b.net;
+  rows = sym (append-nil b.tray.rows);
+  used = used_none b.tray;
+  did = did_none seats b.held b.tray.net;
 }
 
 pub goes_then : (seats : List (ℕ × ℕ)) (a b c : BookView) (xs ys : List Row) → Goes seats a b xs → Goes seats b c ys → Goes seats a c (xs ++ ys)
@@ -71,9 +83,8 @@ goes_then seats a b c xs ys g k = record {
   head = k.head ∙ g.head;
   turns = k.turns ∙ g.turns;
   told_by = k.told_by ∙ g.told_by;
-  net = k.net ∙ ap (λ n. after_rows n ys) g.net ∙ sym (after_rows-append a.net xs ys);
-  rows = k.rows ∙ ap (λ rows. rows ++ ys) g.rows ∙ append_assoc a.rows xs ys;
-  room = omega (arith, g.room, k.room, length-append xs ys);
-  bytes = omega (arith, g.bytes, k.bytes, sum_by-append row_bytes xs ys);
-  did = did_then seats a.held b.held c.held a.net xs ys g.did (subst (λ n. Did seats b.held c.held n ys) g.net k.did);
+  net = k.net ∙ ap (λ n. after_rows n ys) g.net ∙ sym (after_rows-append a.tray.net xs ys);
+  rows = k.rows ∙ ap (λ rows. rows ++ ys) g.rows ∙ append_assoc a.tray.rows xs ys;
+  used = used_then a.tray b.tray c.tray xs ys g.used k.used;
+  did = did_then seats a.held b.held c.held a.tray.net xs ys g.did (subst (λ n. Did seats b.held c.held n ys) g.net k.did);
 }

@@ -12,7 +12,8 @@ use Rattle.journal_types.specs.declared.StackHead.{StackHead}
 use Rattle.journal_types.specs.declared.Turn.{Turn}
 use Rattle.stack_rules.specs.Net.{Net, start, seen, told, after, after_rows, after_turn, after_turns}
 use Rattle.book_lemmas.specs.Between.{IsBetween}
-use Rattle.book_lemmas.specs.Follows.{begun_by, Follows}
+use Rattle.driver_tray.specs.Tray.{begun_by}
+use Rattle.book_lemmas.specs.Follows.{Follows}
 
 head_row : (net : Net) (r : Row) → (after net r).head ≡ net.head
 head_row net (row.Phase (of.Module Miniport s)) = refl

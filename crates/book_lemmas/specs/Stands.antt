@@ -29,7 +29,7 @@ IsSized l = AreSized l.frames
 
 -- so has a list that is on its way; statuses and answers have no frames
 abbrev pub IsCarriedSized : Carried → Type 0
-IsCarriedSized (a_list l) = IsSized l
+IsCarriedSized (a_list l way to) = IsSized l
 IsCarriedSized (a_status s) = Unit {0}
 IsCarriedSized (an_answer a) = Unit {0}
 

@@ -5,16 +5,11 @@ use Rattle.ndis_base.specs.declared.ProtocolKind.TheVariants as protocol_kind
 use Rattle.ndis_base.specs.declared.FilterKind.TheVariants as filter_kind
 use Rattle.ndis_base.specs.declared.ModuleId.{ModuleId}
 use Rattle.ndis_base.specs.declared.ModuleId.TheVariants.{Miniport, Filter, Binding}
-use Rattle.journal_types.specs.declared.StackHead.{StackHead}
-use Rattle.journal_types.specs.declared.Event.{Event}
-use Rattle.journal_types.specs.declared.Reply.{Reply}
-use Rattle.journal_types.specs.declared.Row.{Row}
-use Rattle.journal_types.specs.declared.Turn.{Turn}
 use Rattle.buffer_pools.specs.Views.{ListView, PoolView}
-use Rattle.stack_rules.specs.Net.{Net}
 use Rattle.driver_views.specs.States.{Record, FilterState, MiniportState, ProtocolState, not_called}
 use Rattle.agenda_items.specs.declared.Carried.{Carried}
 use Rattle.hand_lemmas.specs.Hands.{Hands}
+use Rattle.driver_tray.specs.Tray.{TrayView}
 
 -- what is held: the drivers by place, the places on the shelf, the places of the filters that are attached, and the
 -- pools
@@ -28,17 +23,9 @@ pub record HeldView : Type 0 where
   pub protocol_pools : List PoolView
   pub filter_pools : List PoolView
 
--- the book: the journal and the turn under way, with what was told beside its rows; for how many more rows, and
--- bytes of their frames, there is room; the queue, and what is held
+-- the book: the tray, and what is held
 pub record BookView : Type 0 where
-  pub head : StackHead
-  pub turns : List Turn
-  pub told_by : Option (Event × Reply)
-  pub net : Net
-  pub rows : List Row
-  pub room : ℕ
-  pub byte_room : ℕ
-  pub queue : List Carried
+  pub tray : TrayView
   pub held : HeldView
 
 -- the pool of a module that isn't there has no list

@@ -1,3 +1,4 @@
 pub mod Rooms
-pub mod Sends
-pub mod Completions
+pub mod Filters
+pub mod Miniports
+pub mod Protocols

@@ -1,11 +1,32 @@
 -- Room in the tray for one call of a driver.
-use Rattle.std.specs.Prelude.{◌≤◌, ◌<◌, ◌*◌, ◌^◌}
+use Rattle.std.specs.Prelude.{ℕ, ◌≤◌, ◌<◌, ◌+◌, ◌*◌, ◌^◌, ◌≡◌, ◌⊎◌, length, List}
+use Rattle.buffer_pools.specs.Views.{ListView}
+use Rattle.promise_rules.specs.declared.Called.{Called}
+use Rattle.driver_views.specs.declared.Served.{Served}
+use Rattle.driver_views.specs.States.{times}
 use Rattle.driver_tray.specs.Tray.{TrayView}
 
--- for three rows, the frames of one list, and one more list on its way
-pub record HasCallRoom (t : TrayView) : Type 0 where
-  pub rows : 3 ≤ t.room.rows
+-- the call can be counted
+abbrev pub CanCount : Called → Served → Type 0
+CanCount what s = times s what < 2 ^ 62
+
+-- a count of 64 bits rose; one at its last value, 2 to the power of 64 less one, is taken as risen
+abbrev pub IsRisen : ℕ → ℕ → Type 0
+IsRisen n n' = (n < n') ⊎ ((n + 1 ≡ 2 ^ 64) × (n' ≡ n))
+
+-- for so many rows, and so many more lists on their way
+pub record HasRoomFor (rows lists : ℕ) (t : TrayView) : Type 0 where
+  pub rows : rows ≤ t.room.rows
+  pub slack : lists ≤ t.slack
+
+-- for the rows of a new list too: the frames of one list, and a number
+pub record HasRoomForNew (rows lists : ℕ) (t : TrayView) : Type 0 where
+  pub rows : rows ≤ t.room.rows
+  pub slack : lists ≤ t.slack
   pub frames : 8 ≤ t.room.frames
   pub bytes : 8 * 1518 ≤ t.room.bytes
-  pub slack : 1 ≤ t.slack
   pub low : t.net.next.list < 2 ^ 60
+
+-- for two rows of each list that a module keeps
+abbrev pub HasRoomForAll : List ListView → TrayView → Type 0
+HasRoomForAll kept t = HasRoomFor (2 * length kept) (length kept) t

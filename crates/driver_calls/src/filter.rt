@@ -1,13 +1,18 @@
 //! What a book calls of a filter driver.
-ghost use Rattle.std.specs.Prelude.{◌≡◌, ℕ, ◌≤◌, OnOk, length};
+ghost use Rattle.std.specs.Prelude.{◌≡◌, ℕ, ◌≤◌, [], None, Some, OnOk, IfErr, length};
+ghost use Rattle.ndis_base.specs.declared.Direction.TheVariants as direction;
+ghost use Rattle.promise_rules.specs.declared.Called.TheVariants as called;
 ghost use Rattle.driver_views.specs.States.{FilterState};
-ghost use Rattle.driver_calls.specs.Sends.{MaySend, IsSent};
-ghost use Rattle.driver_calls.specs.Completions.{MayComplete, IsCompleted};
+ghost use Rattle.driver_calls.specs.declared.faults.AttachFault.TheVariants.{Refused, Memory};
+ghost use Rattle.driver_calls.specs.Filters.{MayHandle, IsHandled, MayComplete, IsCompleted, MayGiveAll, IsCancelled, IsDrained, MayAttach, Refuses};
 
+use crate::faults::AttachFault;
 use buffer_pools::BufferList;
 use driver_tray::Tray;
 use driver_views::Served;
+use journal_types::Setup;
 use ndis_base::{FilterKind, ListStatus, OutOfMemory};
+use std::alloc::Global;
 
 /// A filter driver (WDK, "NDIS Filter Drivers"), as its author writes it.
 pub trait FilterDriver: Send + Drop {
@@ -17,7 +22,7 @@ pub trait FilterDriver: Send + Drop {
     /// For how many more lists that it keeps it has room.
     ghost room: { Self → ℕ };
 
-    /// Its kind.
+    /// Its kind. No call changes it.
     fn kind(&self) -> FilterKind
         ensures { result ≡ (state self.now).kind };
 
@@ -25,26 +30,71 @@ pub trait FilterDriver: Send + Drop {
     fn served(&self) -> Served
         ensures { result ≡ (state self.now).did.served };
 
+    /// How often it refused to attach.
+    fn refusals(&self) -> u64
+        ensures { result ≡ (state self.now).refusals };
+
     /// How many lists it keeps.
     fn held(&self) -> usize
         ensures { result ≡ length (state self.now).kept };
 
-    /// Makes room for one event whose frames have at most `max` bytes. Until then no other call takes
-    /// memory.
+    /// Makes room for one event whose frames have at most `max` bytes. Until then no other call but
+    /// `attach` takes memory.
     fn make_room(&mut self, max: usize) -> Result<(), OutOfMemory>
         ensures state { state self.new ≡ state self.old }
         ensures room { OnOk result (1 ≤ room self.new) };
 
+    /// Attaches the driver with a set-up (WDK, "FilterAttach"). It may refuse, and counts that.
+    fn attach(&mut self, alloc: Global, setup: Setup) -> Result<(), AttachFault>
+        requires { MayAttach (state self.old) }
+        ensures attached { OnOk result (state self.new ≡ record (state self.old) { setup = Some setup }) }
+        ensures refused { IfErr result (λ fault. fault ≡ Refused → Refuses (state self.old) (state self.new)) }
+        ensures memory { IfErr result (λ fault. fault ≡ Memory → state self.new ≡ state self.old) };
+
     /// A send on its way down (WDK, "FilterSendNetBufferLists").
     fn send(&mut self, list: BufferList, tray: &mut Tray)
-        requires may { MaySend (state self.old) list tray.old }
+        requires may { MayHandle called.Send direction.Down (state self.old) list tray.old }
         requires room { 1 ≤ room self.old }
-        ensures { IsSent (state self.old) list tray.old (state self.new) tray.new };
+        ensures { IsHandled called.Send (state self.old) list tray.old (state self.new) tray.new };
 
-    /// A done send on its way up (WDK, "FilterSendNetBufferListsComplete").
+    /// A send on its way home (WDK, "FilterSendNetBufferListsComplete").
     fn send_complete(&mut self, list: BufferList, status: ListStatus, tray: &mut Tray)
-        requires may { MayComplete (state self.old) list tray.old }
-        ensures { IsCompleted (state self.old) list status tray.old (state self.new) tray.new };
+        requires may { MayComplete called.SendComplete direction.Down (state self.old) list tray.old }
+        ensures { IsCompleted called.SendComplete (state self.old) list status tray.old (state self.new) tray.new };
+
+    /// A receive on its way up (WDK, "FilterReceiveNetBufferLists").
+    fn receive(&mut self, list: BufferList, tray: &mut Tray)
+        requires may { MayHandle called.Receive direction.Up (state self.old) list tray.old }
+        requires room { 1 ≤ room self.old }
+        ensures { IsHandled called.Receive (state self.old) list tray.old (state self.new) tray.new };
+
+    /// A receive on its way home (WDK, "FilterReturnNetBufferLists").
+    fn returned(&mut self, list: BufferList, status: ListStatus, tray: &mut Tray)
+        requires may { MayComplete called.Returned direction.Up (state self.old) list tray.old }
+        ensures { IsCompleted called.Returned (state self.old) list status tray.old (state self.new) tray.new };
+
+    /// Turns back the sends that it keeps ready under an identifier (WDK, "FilterCancelSendNetBufferLists").
+    fn cancel(&mut self, id: u32, tray: &mut Tray)
+        requires { MayGiveAll (state self.old) tray.old }
+        ensures { IsCancelled (state self.old) id tray.old (state self.new) tray.new };
+
+    /// Passes on what it keeps ready, while the stack is to become empty.
+    fn tick(&mut self, tray: &mut Tray)
+        requires { MayGiveAll (state self.old) tray.old }
+        ensures { IsDrained (state self.old) tray.old (state self.new) tray.new };
+
+    /// WDK, "FilterPause".
+    fn pause(&mut self)
+        ensures { state self.new ≡ state self.old };
+
+    /// WDK, "FilterRestart".
+    fn restart(&mut self)
+        ensures { state self.new ≡ state self.old };
+
+    /// WDK, "FilterDetach".
+    fn detach(&mut self)
+        requires { (state self.old).kept ≡ [] }
+        ensures { state self.new ≡ record (state self.old) { setup = None } };
 }
 
 /// A filter driver, as a book calls it.
@@ -55,7 +105,7 @@ pub trait FilterCalls: Drop {
     /// For how many more lists that it keeps it has room.
     ghost room: { Self → ℕ };
 
-    /// Its kind.
+    /// Its kind. No call changes it.
     fn kind(&self) -> FilterKind
         ensures { result ≡ (state self.now).kind };
 
@@ -63,26 +113,71 @@ pub trait FilterCalls: Drop {
     fn served(&self) -> Served
         ensures { result ≡ (state self.now).did.served };
 
+    /// How often it refused to attach.
+    fn refusals(&self) -> u64
+        ensures { result ≡ (state self.now).refusals };
+
     /// How many lists it keeps.
     fn held(&self) -> usize
         ensures { result ≡ length (state self.now).kept };
 
-    /// Makes room for one event whose frames have at most `max` bytes. Until then no other call takes
-    /// memory.
+    /// Makes room for one event whose frames have at most `max` bytes. Until then no other call but
+    /// `attach` takes memory.
     fn make_room(&mut self, max: usize) -> Result<(), OutOfMemory>
         ensures state { state self.new ≡ state self.old }
         ensures room { OnOk result (1 ≤ room self.new) };
 
+    /// Attaches the driver with a set-up (WDK, "FilterAttach"). It may refuse, and counts that.
+    fn attach(&mut self, alloc: Global, setup: Setup) -> Result<(), AttachFault>
+        requires { MayAttach (state self.old) }
+        ensures attached { OnOk result (state self.new ≡ record (state self.old) { setup = Some setup }) }
+        ensures refused { IfErr result (λ fault. fault ≡ Refused → Refuses (state self.old) (state self.new)) }
+        ensures memory { IfErr result (λ fault. fault ≡ Memory → state self.new ≡ state self.old) };
+
     /// A send on its way down (WDK, "FilterSendNetBufferLists").
     fn send(&mut self, list: BufferList, tray: &mut Tray)
-        requires may { MaySend (state self.old) list tray.old }
+        requires may { MayHandle called.Send direction.Down (state self.old) list tray.old }
         requires room { 1 ≤ room self.old }
-        ensures { IsSent (state self.old) list tray.old (state self.new) tray.new };
+        ensures { IsHandled called.Send (state self.old) list tray.old (state self.new) tray.new };
 
-    /// A done send on its way up (WDK, "FilterSendNetBufferListsComplete").
+    /// A send on its way home (WDK, "FilterSendNetBufferListsComplete").
     fn send_complete(&mut self, list: BufferList, status: ListStatus, tray: &mut Tray)
-        requires may { MayComplete (state self.old) list tray.old }
-        ensures { IsCompleted (state self.old) list status tray.old (state self.new) tray.new };
+        requires may { MayComplete called.SendComplete direction.Down (state self.old) list tray.old }
+        ensures { IsCompleted called.SendComplete (state self.old) list status tray.old (state self.new) tray.new };
+
+    /// A receive on its way up (WDK, "FilterReceiveNetBufferLists").
+    fn receive(&mut self, list: BufferList, tray: &mut Tray)
+        requires may { MayHandle called.Receive direction.Up (state self.old) list tray.old }
+        requires room { 1 ≤ room self.old }
+        ensures { IsHandled called.Receive (state self.old) list tray.old (state self.new) tray.new };
+
+    /// A receive on its way home (WDK, "FilterReturnNetBufferLists").
+    fn returned(&mut self, list: BufferList, status: ListStatus, tray: &mut Tray)
+        requires may { MayComplete called.Returned direction.Up (state self.old) list tray.old }
+        ensures { IsCompleted called.Returned (state self.old) list status tray.old (state self.new) tray.new };
+
+    /// Turns back the sends that it keeps ready under an identifier (WDK, "FilterCancelSendNetBufferLists").
+    fn cancel(&mut self, id: u32, tray: &mut Tray)
+        requires { MayGiveAll (state self.old) tray.old }
+        ensures { IsCancelled (state self.old) id tray.old (state self.new) tray.new };
+
+    /// Passes on what it keeps ready, while the stack is to become empty.
+    fn tick(&mut self, tray: &mut Tray)
+        requires { MayGiveAll (state self.old) tray.old }
+        ensures { IsDrained (state self.old) tray.old (state self.new) tray.new };
+
+    /// WDK, "FilterPause".
+    fn pause(&mut self)
+        ensures { state self.new ≡ state self.old };
+
+    /// WDK, "FilterRestart".
+    fn restart(&mut self)
+        ensures { state self.new ≡ state self.old };
+
+    /// WDK, "FilterDetach".
+    fn detach(&mut self)
+        requires { (state self.old).kept ≡ [] }
+        ensures { state self.new ≡ record (state self.old) { setup = None } };
 }
 
 impl FilterCalls for Box<dyn FilterDriver> {
@@ -98,6 +193,10 @@ impl FilterCalls for Box<dyn FilterDriver> {
         (**self).served()
     }
 
+    fn refusals(&self) -> u64 {
+        (**self).refusals()
+    }
+
     fn held(&self) -> usize {
         (**self).held()
     }
@@ -106,11 +205,43 @@ impl FilterCalls for Box<dyn FilterDriver> {
         (**self).make_room(max)
     }
 
+    fn attach(&mut self, alloc: Global, setup: Setup) -> Result<(), AttachFault> {
+        (**self).attach(alloc, setup)
+    }
+
     fn send(&mut self, list: BufferList, tray: &mut Tray) {
         (**self).send(list, tray);
     }
 
     fn send_complete(&mut self, list: BufferList, status: ListStatus, tray: &mut Tray) {
         (**self).send_complete(list, status, tray);
+    }
+
+    fn receive(&mut self, list: BufferList, tray: &mut Tray) {
+        (**self).receive(list, tray);
+    }
+
+    fn returned(&mut self, list: BufferList, status: ListStatus, tray: &mut Tray) {
+        (**self).returned(list, status, tray);
+    }
+
+    fn cancel(&mut self, id: u32, tray: &mut Tray) {
+        (**self).cancel(id, tray);
+    }
+
+    fn tick(&mut self, tray: &mut Tray) {
+        (**self).tick(tray);
+    }
+
+    fn pause(&mut self) {
+        (**self).pause();
+    }
+
+    fn restart(&mut self) {
+        (**self).restart();
+    }
+
+    fn detach(&mut self) {
+        (**self).detach();
     }
 }

@@ -3,10 +3,12 @@
 //! which books are written, which the first one's box implements.
 #![tactic(auto)]
 
+pub mod faults;
 pub mod filter;
 pub mod miniport;
 pub mod protocol;
 
+pub use crate::faults::AttachFault;
 pub use crate::filter::{FilterCalls, FilterDriver};
 pub use crate::miniport::{MiniportCalls, MiniportDriver};
 pub use crate::protocol::{ProtocolCalls, ProtocolDriver};

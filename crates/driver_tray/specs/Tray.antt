@@ -172,9 +172,9 @@ root_label t direction cancel = record {
   origin = origin.Root;
 }
 
--- a new list of the module that is called is on its way
+-- a new list of the module that is called, whose frames the journal has, is on its way
 abbrev pub started : TrayView → ListView → PoolView → TrayView
-started t l pool = passed_on (issued (record t { pool = pool }) l.label l.frames) l
+started t l pool = passed_on (written (record t { pool = pool }) (issue_row l.label l.frames)) l
 
 pub record Starts (t : TrayView) (direction : Direction) (cancel : Option ℕ) (made : List (List ℕ)) (t' : TrayView) : Type 0 where
   pub list : ListView

@@ -1,15 +1,16 @@
 //! What a driver does with a list: each function writes its rows and takes no memory.
-ghost use Rattle.std.specs.Prelude.{◌≡◌, ℕ, ◌*◌, ◌≤◌, ◌<◌, ◌^◌, OnOk, OnErr, IsErr, ◌↔◌};
+ghost use Rattle.std.specs.Prelude.{◌≡◌, ℕ, ◌*◌, ◌≤◌, ◌<◌, ◌^◌, None, IfOk, OnOk, OnErr, IsErr, ◌↔◌, length, sum_by};
 ghost use Rattle.buffer_pools.specs.Views.{Fits, IsOf, live_count};
-ghost use Rattle.flat_journal.specs.Shown.{row_of};
-ghost use Rattle.flat_journal.specs.Within.{RowWithin};
+ghost use Rattle.frame_arena.specs.Spans.{frames_at, SpanWithin};
 ghost use Rattle.stack_rules.specs.Places.{position};
 ghost use Rattle.journal_types.specs.declared.Row.TheVariants as row;
-ghost use Rattle.driver_tray.specs.Tray.{IsSteady, given, passed_on, passed_back, turned_back, noted, onward_row, homeward_row, Clones, Spends};
+ghost use Rattle.stack_rules.specs.Outcome.{list_no};
+ghost use Rattle.driver_tray.specs.Tray.{given, passed_on, passed_back, turned_back, noted, wired, delivered, onward_row, homeward_row, root_label, Starts, Clones, Spends};
 
 use crate::tray::Tray;
 use buffer_pools::{BufferList, Label, NoList};
 use flat_journal::FlatRow;
+use frame_arena::FrameSpan;
 use journal_types::{Handler, How, PassWay, Target};
 use ndis_base::{ConfigNo, Direction, Frame, ListNo, ListStatus, Origin};
 use next_targets::{next_back, next_done, next_down, next_up, position};
@@ -104,26 +105,31 @@ impl Tray {
         });
     }
 
-    /// Puts a list's frames onto the wire.
-    pub fn wire(&mut self, list: &BufferList)
+    /// Puts a list's frames onto the wire, and gives where the journal has them.
+    pub fn wire(&mut self, list: &BufferList) -> FrameSpan
         requires frame_room { length list.now.frames ≤ self.old.room.frames }
         requires byte_room { sum_by length list.now.frames ≤ self.old.room.bytes }
         requires room { 1 ≤ self.old.room.rows }
-        ensures { self.new ≡ wired self.old list.now }
+        ensures tray { self.new ≡ wired self.old list.now }
+        ensures within { SpanWithin self.new.payloads.frames result }
+        ensures shown { frames_at self.new.payloads.frames result ≡ list.now.frames }
     {
         let frames = self.hold_list(list);
         self.write(FlatRow::Wire {
             list: list.number(),
             frames,
         });
+        frames
     }
 
-    /// Tells that a list is delivered to a binding.
-    pub fn deliver(&mut self, list: &BufferList, binding: u32, how: How)
+    /// Tells that a list is delivered to a binding, and gives where the journal has its frames.
+    pub fn deliver(&mut self, list: &BufferList, binding: u32, how: How) -> FrameSpan
         requires frame_room { length list.now.frames ≤ self.old.room.frames }
         requires byte_room { sum_by length list.now.frames ≤ self.old.room.bytes }
         requires room { 1 ≤ self.old.room.rows }
-        ensures { self.new ≡ delivered self.old list.now binding how }
+        ensures tray { self.new ≡ delivered self.old list.now binding how }
+        ensures within { SpanWithin self.new.payloads.frames result }
+        ensures shown { frames_at self.new.payloads.frames result ≡ list.now.frames }
     {
         let frames = self.hold_list(list);
         self.write(FlatRow::Deliver {
@@ -132,32 +138,70 @@ impl Tray {
             how,
             frames,
         });
+        frames
     }
 
-    /// Sends or indicates a new list of the called module's pool with these frames, which the journal has.
-    /// After `NoList` the tray is as before.
-    pub fn start(&mut self, direction: Direction, cancel: Option<u32>, made: &[Frame], span: FrameSpan) -> Result<ListNo, NoList>
-        requires fits { Fits made.now 1518 }
-        requires within { SpanWithin self.old.payloads.frames span }
-        requires shown { frames_at self.old.payloads.frames span ≡ made.now }
-        requires pool { self.old.pool.bytes ≡ 1518 }
-        requires room { 2 ≤ self.old.room.rows }
-        requires slack { 1 ≤ self.old.slack }
-        requires low { self.old.net.next.list < 2 ^ 60 }
-        ensures starts { OnOk result (StartsHeld self.old direction cancel made.now self.new) }
-        ensures number { IfOk result (λ n. n ≡ list_no self.old.net.next.list) }
-        ensures no_list { IsErr result ↔ (live_count self.old.pool ≡ self.old.pool.size) }
-        ensures unchanged { OnErr result (self.new ≡ self.old) }
+    fn root(&self, direction: Direction, cancel: Option<u32>) -> Label
+        ensures { result ≡ root_label self.now direction cancel }
     {
-        let label = Label {
+        Label {
             number: ListNo(self.next),
             owner: self.caller,
             config: ConfigNo(self.modules.config()),
             direction,
             cancel,
             origin: Origin::Root,
-        };
+        }
+    }
+
+    /// Sends or indicates a new list of the called module's pool with these frames, which the journal
+    /// has. After `NoList` the tray is as before.
+    pub fn start(
+        &mut self,
+        direction: Direction,
+        cancel: Option<u32>,
+        made: &[Frame],
+        span: FrameSpan,
+    ) -> Result<ListNo, NoList>
+        requires fits { Fits made.now self.old.pool.bytes }
+        requires within { SpanWithin self.old.payloads.frames span }
+        requires shown { frames_at self.old.payloads.frames span ≡ made.now }
+        requires room { 2 ≤ self.old.room.rows }
+        requires slack { 1 ≤ self.old.slack }
+        requires low { self.old.net.next.list < 2 ^ 60 }
+        ensures starts { OnOk result (Starts self.old direction cancel made.now self.new) }
+        ensures number { IfOk result (λ n. n ≡ list_no self.old.net.next.list) }
+        ensures no_list { IsErr result ↔ (live_count self.old.pool ≡ self.old.pool.size) }
+        ensures unchanged { OnErr result (self.new ≡ self.old) }
+    {
+        let label = self.root(direction, cancel);
         let list = self.pool.issue(label, made)?;
+        self.issue_held(label, span);
+        self.forward(list);
+        Ok(label.number)
+    }
+
+    /// Sends or indicates a new list of the called module's pool with the frames of another list, which
+    /// the journal has. After `NoList` the tray is as before.
+    pub fn start_copy(
+        &mut self,
+        direction: Direction,
+        from: &BufferList,
+        span: FrameSpan,
+    ) -> Result<ListNo, NoList>
+        requires fits { Fits from.now.frames self.old.pool.bytes }
+        requires within { SpanWithin self.old.payloads.frames span }
+        requires shown { frames_at self.old.payloads.frames span ≡ from.now.frames }
+        requires room { 2 ≤ self.old.room.rows }
+        requires slack { 1 ≤ self.old.slack }
+        requires low { self.old.net.next.list < 2 ^ 60 }
+        ensures starts { OnOk result (Starts self.old direction None from.now.frames self.new) }
+        ensures number { IfOk result (λ n. n ≡ list_no self.old.net.next.list) }
+        ensures no_list { IsErr result ↔ (live_count self.old.pool ≡ self.old.pool.size) }
+        ensures unchanged { OnErr result (self.new ≡ self.old) }
+    {
+        let label = self.root(direction, None);
+        let list = self.pool.clone_of(label, from)?;
         self.issue_held(label, span);
         self.forward(list);
         Ok(label.number)

@@ -1,12 +1,12 @@
 //! The tray, and the rows that are written into it.
-ghost use Rattle.std.specs.Prelude.{◌≡◌, ℕ, ◌*◌, ◌+◌, ◌≤◌, ◌<◌, ◌^◌, ◌∷◌, ◌++◌, [], None, Some, IfOk, OnOk, length, sum_by, List};
+ghost use Rattle.std.specs.Prelude.{◌≡◌, ℕ, ◌*◌, ◌+◌, ◌-◌, ◌≤◌, ◌<◌, ◌^◌, ◌∷◌, ◌++◌, [], None, Some, IfOk, OnOk, length, sum_by, List};
 ghost use Rattle.agenda_items.specs.Views.{kept_as};
 ghost use Rattle.agenda_items.specs.declared.Item.{Item};
 ghost use Rattle.agenda_items.specs.declared.Carried.TheVariants as carried;
 ghost use Rattle.buffer_pools.specs.Views.{Fits};
 ghost use Rattle.journal_types.specs.declared.Row.TheVariants as row;
 ghost use Rattle.frame_arena.specs.Spans.{frames_at, SpanWithin};
-ghost use Rattle.flat_journal.specs.Rooms.{Covers};
+ghost use Rattle.flat_journal.specs.Rooms.{Covers, Uses, no_room};
 ghost use Rattle.flat_journal.specs.Shown.{row_of};
 ghost use Rattle.flat_journal.specs.Within.{RowWithin};
 ghost use Rattle.driver_tray.specs.Tray.{TrayView, IsNew, written, framed, issued, passed, issue_row, IsSteady};
@@ -50,6 +50,24 @@ impl Model for Tray {
     ghost view = { tray_view };
 
     ghost invariant = { IsTray };
+}
+
+fn push_list(journal: &mut FlatJournal, list: &BufferList) -> FrameSpan
+    requires frame_room { length list.now.frames ≤ journal.old.room.frames }
+    requires byte_room { sum_by length list.now.frames ≤ journal.old.room.bytes }
+    ensures head { journal.new.head ≡ journal.old.head }
+    ensures turns { journal.new.turns ≡ journal.old.turns }
+    ensures rows { journal.new.rows ≡ journal.old.rows }
+    ensures payloads { journal.new.payloads ≡ record journal.old.payloads { frames = journal.old.payloads.frames ++ list.now.frames } }
+    ensures within { SpanWithin journal.new.payloads.frames result }
+    ensures shown { frames_at journal.new.payloads.frames result ≡ list.now.frames }
+    ensures room { Uses journal.old.room journal.new.room (record no_room { frames = length list.now.frames; bytes = sum_by length list.now.frames }) }
+{
+    let first = journal.frame_count();
+    for i in 0..list.buffers() {
+        journal.push_frame(list.frame(i).data());
+    }
+    journal.span_from(first)
 }
 
 impl Tray {
@@ -173,7 +191,7 @@ impl Tray {
         ensures within { SpanWithin self.new.payloads.frames result }
         ensures shown { frames_at self.new.payloads.frames result ≡ list.now.frames }
     {
-        self.hold(list, 0)
+        push_list(&mut self.journal, list)
     }
 
     /// Writes the Issue row of a list whose frames the journal has.

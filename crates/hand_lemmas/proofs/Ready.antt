@@ -6,7 +6,8 @@ use Rattle.stack_rules.specs.Net.{Net, lists, list_of}
 use Rattle.stack_rules.specs.Places.{is_kept_by, has_clone, is_waiting, kept_lists, ready_lists}
 use Rattle.rule_basics.specs.Live.{Each}
 use Rattle.rule_basics.proofs.Each.{Each-implies}
-use Rattle.hand_lemmas.specs.Hands.{Common, in_hand, in_state, Hands, Agrees, crossed_at, waits_at, ready_of}
+use Rattle.agenda_items.specs.Waits.{crossed_at, waits_at}
+use Rattle.hand_lemmas.specs.Hands.{Common, in_hand, in_state, Hands, Agrees, ready_of}
 use Rattle.hand_lemmas.proofs.Filters.{filters_match}
 use Rattle.hand_lemmas.proofs.Finds.{found_self}
 

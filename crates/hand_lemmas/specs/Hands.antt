@@ -23,6 +23,7 @@ use Rattle.stack_rules.specs.Tests.{same_module}
 use Rattle.stack_rules.specs.Net.{Net, lists, list_of}
 use Rattle.stack_rules.specs.Places.{is_crossed, has_clone, agenda, kept_lists, owned}
 use Rattle.rule_basics.specs.Numbers.{IsNumbered}
+use Rattle.agenda_items.specs.Waits.{waits_at}
 
 -- what a list in hand and a live list have in common
 pub record Common : Type 0 where
@@ -176,15 +177,6 @@ pub record IsSame (h k : Hands) : Type 0 where
   pub loose : h.loose ≡ k.loose
   pub kept : (m : ModuleId) → h.kept m ≡ k.kept m
   pub pools : (m : ModuleId) → h.pools m ≡ k.pools m
-
--- whether a kept list waits, by its number alone, so that the ledger can tell it and no driver has to remember it
-abbrev pub crossed_at : Option LiveList → Bool
-crossed_at None = false
-crossed_at (Some l) = is_crossed l.crossed
-
--- the list of this number is crossed, or a clone of it is live
-abbrev pub waits_at : Net → ℕ → Bool
-waits_at net n = crossed_at (list_of n (lists net.things)) || has_clone net n
 
 -- the lists that a module keeps ready, in hand
 abbrev pub ready_of : Net → Hands → ModuleId → List ListView
