@@ -1,6 +1,6 @@
 -- While a module is called: what the tray and the module have in hand, with what the others have, agrees with the state,
 -- and the rows so far are those of the call.
-use Rattle.std.specs.Prelude.{◌≡◌, List, ◌++◌, All}
+use Rattle.std.specs.Prelude.{◌≡◌, ℕ, false, List, [], ◌++◌, All}
 use Rattle.ndis_base.specs.declared.ModuleId.{ModuleId}
 use Rattle.journal_types.specs.declared.Row.{Row}
 use Rattle.buffer_pools.specs.Views.{ListView}
@@ -8,7 +8,8 @@ use Rattle.stack_rules.specs.Net.{Net, after_rows}
 use Rattle.promise_rules.specs.declared.Call.{Call}
 use Rattle.agenda_items.specs.declared.Carried.{Carried}
 use Rattle.hand_lemmas.specs.Hands.{Hands, Agrees, put_at}
-use Rattle.book_lemmas.specs.Did.{calls_in}
+use Rattle.stack_rules.specs.Tests.{same_module}
+use Rattle.book_lemmas.specs.Did.{calls_in, logs_in}
 use Rattle.book_lemmas.specs.Leaves.{ArePlain}
 use Rattle.book_lemmas.specs.Stands.{IsSized, IsCarriedSized}
 use Rattle.book_lemmas.specs.Turns.{HasUsed}
@@ -32,8 +33,9 @@ pub record AreSizedIn (t : TrayView) (x : Beside) : Type 0 where
   pub loose : All IsSized x.loose
   pub kept : All IsSized x.kept
 
--- `before` is the tray as the rows began, and `h` what was in hand then
-pub record InCall (before : TrayView) (h : Hands) (m : ModuleId) (rows : List Row) (calls : List Call) (t : TrayView) (x : Beside) : Type 0 where
+-- `before` is the tray as the rows began, and `h` what was in hand then; `calls` are the driver's calls that the rows
+-- stand for, and `log` what they add to its log
+pub record InCall (before : TrayView) (h : Hands) (m : ModuleId) (rows : List Row) (calls : List Call) (log : List (List (List ℕ))) (t : TrayView) (x : Beside) : Type 0 where
   pub agrees : Agrees t.net (hands_in h m t x)
   pub net : t.net ≡ after_rows before.net rows
   pub rows_are : t.rows ≡ before.rows ++ rows
@@ -42,6 +44,8 @@ pub record InCall (before : TrayView) (h : Hands) (m : ModuleId) (rows : List Ro
   pub told_by : t.told_by ≡ before.told_by
   pub plain : ArePlain rows
   pub calls_are : calls_in before.net rows ≡ calls
+  pub log_is : logs_in m rows ≡ log
+  pub quiet : (k : ModuleId) → same_module k m ≡ false → logs_in k rows ≡ []
   pub caller : t.caller ≡ m
   pub sized : AreSizedIn t x
   pub size : t.pool.size ≡ (h.pools m).size

@@ -83,7 +83,7 @@ pub data Completes (s : FilterState) (l : ListView) (status : ListStatus) (t : T
 -- it counts the call, and nothing else changes but its kept lists
 pub record IsCompleted (what : Called) (s : FilterState) (l : ListView) (status : ListStatus) (t : TrayView) (s' : FilterState) (t' : TrayView) : Type 0 where
   pub same : s' ≡ record s { did = called_for what s.did; kept = s'.kept }
-  pub by : Completes s l status t s'.kept t'
+  pub by : IsSome s.setup → Completes s l status t s'.kept t'
 
 -- the lists that a module keeps and doesn't wait for
 abbrev pub is_ready : Net → ListView → Bool

@@ -1,6 +1,6 @@
 -- What a miniport does when it is called, in hand (WDK, "Sending Data from a Miniport Driver", "Indicating Received Data
 -- from a Miniport Driver", "Canceling a Send Operation").
-use Rattle.std.specs.Prelude.{◌≡◌, ◌≢◌, ℕ, ◌&&◌, Bool, true, false, List, [], ◌∷◌, ◌++◌, Option, Some, None, length, sum_by, ◌≤◌, ◌*◌, ◌<◌, ◌^◌}
+use Rattle.std.specs.Prelude.{◌≡◌, ◌≢◌, ℕ, ◌&&◌, Bool, true, false, List, [], ◌∷◌, ◌++◌, Option, Some, None, IsSome, length, sum_by, ◌≤◌, ◌*◌, ◌<◌, ◌^◌}
 use Rattle.ndis_base.specs.declared.Direction.TheVariants as direction
 use Rattle.ndis_base.specs.declared.ListNo.{ListNo}
 use Rattle.ndis_base.specs.declared.ListStatus.{ListStatus}
@@ -26,8 +26,8 @@ pub record MayInitialize (s : MiniportState) : Type 0 where
   pub kept : s.kept ≡ []
 
 -- a send may be given to it
-pub record MaySend (s : MiniportState) (p : PortSetup) (l : ListView) (t : TrayView) : Type 0 where
-  pub port : s.port ≡ Some p
+pub record MaySend (s : MiniportState) (l : ListView) (t : TrayView) : Type 0 where
+  pub port : IsSome s.port
   pub count : CanCount called.Send s.did.served
   pub down : l.label.direction ≡ direction.Down
   pub room : HasRoomFor 2 1 t
@@ -69,14 +69,17 @@ IsLooping s running t = ((is_loop s.kind && running) ≡ true) × (live_count t.
 
 -- it puts its oldest list onto the wire, which is its log, and passes it back with Success; a virtual miniport transmits
 -- nothing
-pub data Transmits (s : MiniportState) (running : Bool) (t : TrayView) (result : Option ListNo) (s' : MiniportState) (t' : TrayView) : Type 0 where
-  idles : s.kept ≡ [] → result ≡ None → s' ≡ s → t' ≡ t → Transmits s running t result s' t'
-  crosses : is_virtual s.kind ≡ true → result ≡ None → s' ≡ s → t' ≡ t → Transmits s running t result s' t'
-  wires : (l : ListView) (rest : List ListView) → is_virtual s.kind ≡ false → s.kept ≡ l ∷ rest → result ≡ Some l.label.number
-      → s' ≡ record s { kept = rest; did = logs l.frames s.did } → (IsLooping s running t → ⊥) → t' ≡ passed_back (wired t l) l Success → Transmits s running t result s' t'
-  loops : (l : ListView) (rest : List ListView) (with : TrayView) → is_virtual s.kind ≡ false → s.kept ≡ l ∷ rest → result ≡ Some l.label.number
-      → s' ≡ record s { kept = rest; did = logs l.frames s.did } → IsLooping s running t → Starts (wired t l) direction.Up None l.frames with → t' ≡ passed_back with l Success
-      → Transmits s running t result s' t'
+pub data Transmits (s : MiniportState) (running : Bool) (kept : List ListView) (t : TrayView) (result : Option ListNo) (s' : MiniportState) (t' : TrayView) : Type 0 where
+  idles : kept ≡ [] → result ≡ None → s' ≡ s → t' ≡ t → Transmits s running kept t result s' t'
+  crosses : is_virtual s.kind ≡ true → result ≡ None → s' ≡ s → t' ≡ t → Transmits s running kept t result s' t'
+  wires : (l : ListView) (rest : List ListView) → is_virtual s.kind ≡ false → kept ≡ l ∷ rest → result ≡ Some l.label.number
+      → s' ≡ record s { kept = rest; did = logs l.frames s.did } → (IsLooping s running t → ⊥) → t' ≡ passed_back (wired t l) l Success → Transmits s running kept t result s' t'
+  loops : (l : ListView) (rest : List ListView) (begun : TrayView) → is_virtual s.kind ≡ false → kept ≡ l ∷ rest → result ≡ Some l.label.number
+      → s' ≡ record s { kept = rest; did = logs l.frames s.did } → IsLooping s running t → Starts (wired t l) direction.Up None l.frames begun → t' ≡ passed_back begun l Success
+      → Transmits s running kept t result s' t'
+
+pub record IsTransmitted (s : MiniportState) (running : Bool) (t : TrayView) (result : Option ListNo) (s' : MiniportState) (t' : TrayView) : Type 0 where
+  pub by : (kept : List ListView) → s.kept ≡ kept → Transmits s running kept t result s' t'
 
 -- it may be told to cancel
 pub record MayCancel (s : MiniportState) (t : TrayView) : Type 0 where

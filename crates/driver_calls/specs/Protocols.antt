@@ -59,10 +59,13 @@ pub record IsReceived (s : ProtocolState) (l : ListView) (t : TrayView) (s' : Pr
   pub settles : Settles s l echoed s'.kept t'
 
 -- it passes back a list that it keeps, by its number, and answers whether it keeps it
-pub data GivesBack (s : ProtocolState) (n : ℕ) (t : TrayView) (result : Bool) (s' : ProtocolState) (t' : TrayView) : Type 0 where
-  lacks_it : filter (λ l. l.label.number.0 == n) s.kept ≡ [] → result ≡ false → s' ≡ s → t' ≡ t → GivesBack s n t result s' t'
-  gives : (front : List ListView) (l : ListView) (back : List ListView) → s.kept ≡ front ++ l ∷ back → l.label.number.0 ≡ n → result ≡ true
-      → s' ≡ record s { kept = front ++ back } → t' ≡ passed_back t l Success → GivesBack s n t result s' t'
+pub data GivesBack (s : ProtocolState) (n : ℕ) (kept : List ListView) (t : TrayView) (result : Bool) (s' : ProtocolState) (t' : TrayView) : Type 0 where
+  lacks_it : filter (λ l. l.label.number.0 == n) kept ≡ [] → result ≡ false → s' ≡ s → t' ≡ t → GivesBack s n kept t result s' t'
+  gives : (front : List ListView) (l : ListView) (back : List ListView) → kept ≡ front ++ l ∷ back → l.label.number.0 ≡ n → result ≡ true
+      → s' ≡ record s { kept = front ++ back } → t' ≡ passed_back t l Success → GivesBack s n kept t result s' t'
+
+pub record IsGivenBack (s : ProtocolState) (n : ℕ) (t : TrayView) (result : Bool) (s' : ProtocolState) (t' : TrayView) : Type 0 where
+  pub by : (kept : List ListView) → s.kept ≡ kept → GivesBack s n kept t result s' t'
 
 -- a drain: a retain protocol passes back all ready lists that it keeps, the oldest first; any other does nothing
 pub record ReturnsAll (kept : List ListView) (t : TrayView) (kept' : List ListView) (t' : TrayView) : Type 0 where

@@ -15,14 +15,14 @@ abbrev pub IsRisen : ℕ → ℕ → Type 0
 IsRisen n n' = (n < n') ⊎ ((n + 1 ≡ 2 ^ 64) × (n' ≡ n))
 
 -- for so many rows, and so many more lists on their way
-pub record HasRoomFor (rows lists : ℕ) (t : TrayView) : Type 0 where
-  pub rows : rows ≤ t.room.rows
-  pub slack : lists ≤ t.slack
+pub record HasRoomFor (many ways : ℕ) (t : TrayView) : Type 0 where
+  pub rows : many ≤ t.room.rows
+  pub slack : ways ≤ t.slack
 
 -- for the rows of a new list too: the frames of one list, and a number
-pub record HasRoomForNew (rows lists : ℕ) (t : TrayView) : Type 0 where
-  pub rows : rows ≤ t.room.rows
-  pub slack : lists ≤ t.slack
+pub record HasRoomForNew (many ways : ℕ) (t : TrayView) : Type 0 where
+  pub rows : many ≤ t.room.rows
+  pub slack : ways ≤ t.slack
   pub frames : 8 ≤ t.room.frames
   pub bytes : 8 * 1518 ≤ t.room.bytes
   pub low : t.net.next.list < 2 ^ 60

@@ -2,7 +2,7 @@
 ghost use Rattle.std.specs.Prelude.{◌≡◌, ℕ, ◌≤◌, ◌<◌, [], None, Some, OnOk, IfErr, length, slice_index_or};
 ghost use Rattle.driver_views.specs.States.{MiniportState};
 ghost use Rattle.driver_calls.specs.declared.faults.AttachFault.TheVariants.{Refused, Memory};
-ghost use Rattle.driver_calls.specs.Miniports.{MayInitialize, Refuses, MaySend, IsQueued, MayReturn, IsReturned, MayTransmit, Transmits, MayCancel, IsCancelled};
+ghost use Rattle.driver_calls.specs.Miniports.{MayInitialize, Refuses, MaySend, IsQueued, MayReturn, IsReturned, MayTransmit, IsTransmitted, MayCancel, IsCancelled};
 
 use crate::faults::AttachFault;
 use buffer_pools::BufferList;
@@ -71,7 +71,7 @@ pub trait MiniportDriver: Send + Drop {
     fn transmit(&mut self, running: bool, tray: &mut Tray) -> Option<ListNo>
         requires may { MayTransmit (state self.old) tray.old }
         requires room { 1 ≤ room self.old }
-        ensures { Transmits (state self.old) running tray.old result (state self.new) tray.new };
+        ensures { IsTransmitted (state self.old) running tray.old result (state self.new) tray.new };
 
     /// WDK, "MiniportPause".
     fn pause(&mut self)
@@ -155,7 +155,7 @@ pub trait MiniportCalls: Drop {
     fn transmit(&mut self, running: bool, tray: &mut Tray) -> Option<ListNo>
         requires may { MayTransmit (state self.old) tray.old }
         requires room { 1 ≤ room self.old }
-        ensures { Transmits (state self.old) running tray.old result (state self.new) tray.new };
+        ensures { IsTransmitted (state self.old) running tray.old result (state self.new) tray.new };
 
     /// WDK, "MiniportPause".
     fn pause(&mut self)

@@ -3,7 +3,7 @@ ghost use Rattle.std.specs.Prelude.{◌≡◌, ℕ, ◌≤◌, ◌<◌, [], true
 ghost use Rattle.promise_rules.specs.declared.Called.TheVariants as called;
 ghost use Rattle.driver_views.specs.States.{ProtocolState};
 ghost use Rattle.driver_calls.specs.Rooms.{CanCount, HasRoomFor, HasRoomForAll};
-ghost use Rattle.driver_calls.specs.Protocols.{MayOpen, IsSentHome, MayReceive, IsReceived, IsLent, GivesBack, IsDrained};
+ghost use Rattle.driver_calls.specs.Protocols.{MayOpen, IsSentHome, MayReceive, IsReceived, IsLent, IsGivenBack, IsDrained};
 
 use buffer_pools::BufferList;
 use driver_tray::Tray;
@@ -68,7 +68,7 @@ pub trait ProtocolDriver: Send + Drop {
     /// Passes back a list that it keeps (WDK, "NdisReturnNetBufferLists"), and answers whether it keeps it.
     fn give_back(&mut self, list: ListNo, tray: &mut Tray) -> bool
         requires { HasRoomFor 1 1 tray.old }
-        ensures { GivesBack (state self.old) list.0 tray.old result (state self.new) tray.new };
+        ensures { IsGivenBack (state self.old) list.0 tray.old result (state self.new) tray.new };
 
     /// Passes back what it keeps ready, while the stack is to become empty.
     fn tick(&mut self, tray: &mut Tray)
@@ -154,7 +154,7 @@ pub trait ProtocolCalls: Drop {
     /// Passes back a list that it keeps (WDK, "NdisReturnNetBufferLists"), and answers whether it keeps it.
     fn give_back(&mut self, list: ListNo, tray: &mut Tray) -> bool
         requires { HasRoomFor 1 1 tray.old }
-        ensures { GivesBack (state self.old) list.0 tray.old result (state self.new) tray.new };
+        ensures { IsGivenBack (state self.old) list.0 tray.old result (state self.new) tray.new };
 
     /// Passes back what it keeps ready, while the stack is to become empty.
     fn tick(&mut self, tray: &mut Tray)
