@@ -162,6 +162,10 @@ wrote t r queue slack pool way size bytes = record {
 
 -- Rows that move nothing.
 
+-- the queue is the same
+same_sized : {t t' : TrayView} {x : Beside} → AreSizedIn t x → t'.queue ≡ t.queue → AreSizedIn t' x
+same_sized s e = record { front = s.front; queue = subst (All IsCarriedSized) (sym e) s.queue; loose = s.loose; kept = s.kept }
+
 still_give : (n : ListNo) (m : ModuleId) (handler : Handler) (k : ModuleId) → logged_at k (row.Give n m handler) ≡ []
 still_give n m handler Miniport = refl
 still_give n m handler (Filter f) = refl
@@ -174,7 +178,7 @@ in_given {b} {h} {m} {rows} {calls} {log} {t} {x} n handler i =
     (subst (λ ls. InCall b h m (rows ++ row.Give n t.caller handler ∷ []) (calls ++ call t.caller (called_by handler)) ls (tray.given t n handler) x) (append-nil log)
     (in_row (row.Give n t.caller handler) (call t.caller (called_by handler)) [] (tray.given t n handler) x i (wrote t (row.Give n t.caller handler) t.queue t.slack t.pool (omega arith) refl refl) tt refl
     (still_give n t.caller handler m) (λ k other. still_give n t.caller handler k)
-    (given t.net n t.caller handler (hands_in h m t x) i.agrees) i.sized))
+    (given t.net n t.caller handler (hands_in h m t x) i.agrees) (same_sized i.sized refl)))
 
 still_turn : (n : ListNo) (m : ModuleId) (status : ListStatus) (k : ModuleId) → logged_at k (row.TurnBack n m status) ≡ []
 still_turn n m status Miniport = refl
@@ -187,7 +191,7 @@ in_turned_back {b} {h} {m} {rows} {calls} {log} {t} {x} n status i =
     let t' : TrayView = tray.written t (row.TurnBack n t.caller status) in
     subst (λ k. InCall b h m (rows ++ row.TurnBack n k status ∷ []) calls log t' x) i.caller
     (in_still (row.TurnBack n t.caller status) t' x i (wrote t (row.TurnBack n t.caller status) t.queue t.slack t.pool (omega arith) refl refl) tt refl (still_turn n t.caller status)
-    (turned_back t.net n t.caller status (hands_in h m t x) i.agrees) i.sized)
+    (turned_back t.net n t.caller status (hands_in h m t x) i.agrees) (same_sized i.sized refl))
 
 -- the tray that shows more frames by a row
 framed_wrote : (t : TrayView) (r : Row) (frames : List (List ℕ)) → row_frames r ≡ length frames → row_bytes r ≡ sum_by length frames → is_way r ≡ false → Wrote t r (tray.written (tray.framed t frames) r)
