@@ -3,3 +3,4 @@ pub mod Ends
 pub mod Served
 pub mod Bindings
 pub mod Miniports
+pub mod Filters

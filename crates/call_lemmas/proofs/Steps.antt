@@ -135,7 +135,7 @@ in_still {b} {h} {m} {rows} {calls} {log} {t} {x} r t' x' i w plain now logs agr
     (in_row r [] [] t' x' i w plain now (logs m) (λ k other. logs k) agrees sized))
 
 -- how much room a row uses
-used_row : (t t' : TrayView) (r : Row) → t.room.rows ≤ t'.room.rows + 1 → t.room.frames ≤ t'.room.frames + row_frames r → t.room.bytes ≤ t'.room.bytes + row_bytes r
+pub used_row : (t t' : TrayView) (r : Row) → t.room.rows ≤ t'.room.rows + 1 → t.room.frames ≤ t'.room.frames + row_frames r → t.room.bytes ≤ t'.room.bytes + row_bytes r
     → t.slack ≤ t'.slack + cond (is_way r) 1 0 → t.room.turns ≤ t'.room.turns → HasUsed t (r ∷ []) t'
 used_row t t' r rows frames bytes slack turns =
     let many : length (r ∷ []) ≡ 1 = refl in
