@@ -1,0 +1,4 @@
+//! What is done at bindings.
+#![tactic(auto)]
+
+pub mod sends;
