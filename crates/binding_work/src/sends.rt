@@ -12,7 +12,7 @@ ghost use Rattle.stack_rules.specs.Outcome.{list_no};
 ghost use Rattle.book_lemmas.specs.Views.{no_pool};
 ghost use Rattle.book_parts.specs.Parts.{view_of};
 ghost use Rattle.book_parts.specs.Events.{IsBook, IsIdle, DidEvent, IsUnmoved, CanEnd};
-ghost use Rattle.binding_work.specs.Sends.{MayStart, StartsFor};
+ghost use Rattle.binding_work.specs.Sends.{MayStart, StartsFor, Sends};
 
 use book_parts::BookParts;
 use buffer_pools::{ListPool, NoList};
@@ -64,5 +64,73 @@ fn start_at(
     ensures tray { OnErr result (tray.new ≡ record tray.old { caller = Binding binding }) }
     ensures same { OnErr result (pools.new.items ≡ pools.old.items) }
 {
-    start_for(tray, &mut pools[binding as usize], binding, cancel, frames, span)
+    start_for(
+        tray,
+        &mut pools[binding as usize],
+        binding,
+        cancel,
+        frames,
+        span,
+    )
+}
+
+/// Sends a list, while the stack runs.
+fn send_running<M: MiniportCalls, P: ProtocolCalls, F: FilterCalls>(
+    book: &mut BookParts<M, P, F>,
+    binding: u32,
+    cancel: Option<u32>,
+    frames: &[Frame],
+    span: FrameSpan,
+) -> FlatReply
+    requires there { binding < length book.old.protocol_pools.items }
+    requires may { MayStart (view_of M.state P.state F.state book.old).tray (slice_index_or book.old.protocol_pools.items binding no_pool) frames.now span }
+    ensures { Sends binding cancel frames.now (view_of M.state P.state F.state book.old) (view_of M.state P.state F.state book.new) result }
+{
+    let started = start_at(
+        &mut book.tray,
+        &mut book.protocol_pools,
+        binding,
+        cancel,
+        frames,
+        span,
+    );
+    match started {
+        Ok(list) => FlatReply::Sent { list },
+        Err(NoList) => FlatReply::Refused(Refusal::NoList),
+    }
+}
+
+/// A binding sends a list (WDK, "Sending Data from a Protocol Driver"). The journal has its frames at
+/// `span`.
+pub fn send<M: MiniportCalls, P: ProtocolCalls, F: FilterCalls>(
+    book: &mut BookParts<M, P, F>,
+    phase: Phase,
+    binding: u32,
+    cancel: Option<u32>,
+    frames: &[Frame],
+    span: FrameSpan,
+) -> Result<FlatReply, OutOfMemory>
+    requires book { IsBook (view_of M.state P.state F.state book.old) }
+    requires idle { IsIdle (view_of M.state P.state F.state book.old) }
+    requires phase { phase ≡ (view_of M.state P.state F.state book.old).tray.net.phase }
+    requires may { may_ask (view_of M.state P.state F.state book.old).tray.head (event.Send binding cancel frames.now) ≡ true }
+    requires within { SpanWithin (view_of M.state P.state F.state book.old).tray.payloads.frames span }
+    requires shown { frames_at (view_of M.state P.state F.state book.old).tray.payloads.frames span ≡ frames.now }
+    ensures did { IfOk result (λ r. DidEvent (view_of M.state P.state F.state book.old) (view_of M.state P.state F.state book.new) (event.Send binding cancel frames.now) (reply_of (view_of M.state P.state F.state book.new).tray.payloads r)) }
+    ensures within { IfOk result (λ r. ReplyWithin (view_of M.state P.state F.state book.new).tray.payloads r) }
+    ensures turn { OnOk result (CanEnd (view_of M.state P.state F.state book.new)) }
+    ensures memory { OnErr result (IsUnmoved (view_of M.state P.state F.state book.old) (view_of M.state P.state F.state book.new)) }
+{
+    book.tray.make_room(
+        Room {
+            turns: 1,
+            rows: 2,
+            ..Room::none()
+        },
+        1,
+    )?;
+    match phase {
+        Phase::Running => Ok(send_running(book, binding, cancel, frames, span)),
+        _ => Ok(FlatReply::Refused(Refusal::Paused { phase })),
+    }
 }
