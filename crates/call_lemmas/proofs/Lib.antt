@@ -1,3 +1,6 @@
 pub mod Steps
 pub mod Ends
+pub mod Served
 pub mod Bindings
+pub mod Miniports
+pub mod Filters
