@@ -1,2 +1,4 @@
 pub mod Events
 pub mod Sending
+pub mod Firsts
+pub mod Homing

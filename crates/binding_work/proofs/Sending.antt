@@ -172,7 +172,7 @@ outcome_by net binding cancel made running full e f =
     ap (λ r. cond r (cond (is_full net (Binding binding)) (refused refusal.NoList) (record { reply = reply.Sent (list_no net.next.list); rows = sent net binding cancel made })) (refused (refusal.Paused net.phase))) e
     ∙ ap (λ b. cond running (cond b (refused refusal.NoList) (record { reply = reply.Sent (list_no net.next.list); rows = sent net binding cancel made })) (refused (refusal.Paused net.phase))) f
 
-any_choice : Choice
+abbrev pub any_choice : Choice
 any_choice = record { keeps = false; refuses = false; shelf_empty = false }
 
 -- the event is done, and its turn can be ended
