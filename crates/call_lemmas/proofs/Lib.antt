@@ -4,3 +4,4 @@ pub mod Served
 pub mod Bindings
 pub mod Miniports
 pub mod Filters
+pub mod Homewards
