@@ -55,7 +55,7 @@ use Rattle.call_lemmas.proofs.Steps.{in_spent}
 use Rattle.book_parts.specs.Events.{IsBook, IsIdle, FirstIs}
 use Rattle.binding_work.specs.Sends.{called_with}
 use Rattle.binding_work.specs.Homes.{IsDoneFor, ComesHome}
-use Rattle.binding_work.proofs.Events.{Begins, begins_called, begins_stands, did_event, ends_call}
+use Rattle.book_parts.proofs.Events.{Begins, begins_called, begins_stands, did_event, ends_call}
 use Rattle.binding_work.proofs.Sending.{IsBound, IsDone, between, any_choice}
 
 -- an element at its place, and its state

@@ -1,4 +1,3 @@
-pub mod Events
 pub mod Sending
 pub mod Firsts
 pub mod Homing

@@ -46,7 +46,7 @@ use Rattle.book_parts.specs.Events.{IsBook, IsIdle, DidEvent, CanEnd}
 use Rattle.book_parts.proofs.Ended.{idle_state}
 use Rattle.binding_work.specs.Sends.{MayStart, StartsFor, Sends, called_with, binding_pooled}
 use Rattle.binding_work.specs.Sends.Sends.{starts, lacks}
-use Rattle.binding_work.proofs.Events.{Begins, begins_called, begins_roomed, begins_stands, did_event, ends_call, ends_still}
+use Rattle.book_parts.proofs.Events.{Begins, begins_called, begins_roomed, begins_stands, did_event, ends_call, ends_still}
 
 -- what may be asked is of the right sizes
 frame_sized : (f : List ℕ) (a b : Bool) → nat_le 14 (length f) ≡ a → nat_le (length f) 1518 ≡ b → (a && b) ≡ true → IsFrame 1518 f
