@@ -5,7 +5,7 @@ ghost use Rattle.journal_words.specs.Words.{word, hex_text, value_text, code_tex
 
 use itoa::Buffer;
 use journal_types::{Frames, Target};
-use ndis_base::{Frame, Handlers, ModuleId, OidValue, OutOfMemory};
+use ndis_base::{Frame, Handlers, ModuleId, OutOfMemory};
 use std::alloc::Global;
 use std::marker::Model;
 
@@ -202,20 +202,15 @@ impl Page {
         self.hex(&bytes)
     }
 
-    fn hex_or_dash(&mut self, bytes: &[u8]) -> Result<(), OutOfMemory>
-        ensures { OnOk result (self.new ≡ word self.old (value_text bytes.now)) }
+    /// Adds the bytes of an OID value, or a dash where there is none.
+    pub fn value(&mut self, value: &[u8]) -> Result<(), OutOfMemory>
+        ensures { OnOk result (self.new ≡ word self.old (value_text value.now)) }
     {
-        if bytes.is_empty() {
+        if value.is_empty() {
             return self.word("-");
         }
         self.text(" ")?;
-        self.hex(bytes)
-    }
-
-    pub fn value(&mut self, value: &OidValue) -> Result<(), OutOfMemory>
-        ensures { OnOk result (self.new ≡ word self.old (value_text value.now)) }
-    {
-        self.hex_or_dash(value.bytes())
+        self.hex(value)
     }
 
     fn more_frames(&mut self, frames: &[Frame]) -> Result<(), OutOfMemory>
