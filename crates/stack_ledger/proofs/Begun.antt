@@ -4,7 +4,7 @@ use Rattle.ndis_base.specs.declared.ModuleState.TheVariants as state
 use Rattle.ndis_base.specs.declared.Phase.TheVariants as phase
 use Rattle.journal_types.specs.declared.StackHead.{StackHead}
 use Rattle.stack_rules.specs.declared.Request.{Request}
-use Rattle.stack_rules.specs.Net.{Net, Modules, Counters, start}
+use Rattle.stack_rules.specs.Net.{Modules, Counters, start}
 use Rattle.stack_rules.specs.Port.{Port, first_port}
 use Rattle.stack_ledger.specs.declared.numbers.NextNumbers.{NextNumbers}
 use Rattle.stack_ledger.specs.Bare.{LedgerView}

@@ -3,9 +3,13 @@
 //! are written. Only `make` and `make_room` take memory.
 #![tactic(auto)]
 
+pub mod floors;
+pub mod giving;
 pub mod ledger;
 pub mod numbers;
 pub mod port;
+pub mod queries;
 pub mod requests;
 
+pub use crate::giving::Giving;
 pub use crate::ledger::StackLedger;

@@ -1,4 +1,4 @@
-use Rattle.std.proofs.Common.{◌≡◌, ◌<◌, length, refl, subst}
+use Rattle.std.proofs.Common.{◌<◌, length, refl, subst}
 use Rattle.stack_rules.specs.Net.{given_to}
 use Rattle.stack_modules.proofs.Changes.{next_changed}
 use Rattle.stack_ledger.proofs.requests.give.Goals as goal

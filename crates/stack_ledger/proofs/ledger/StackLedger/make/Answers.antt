@@ -1,7 +1,5 @@
-use Rattle.std.proofs.Common.{◌≡◌, ◌≤◌, length, replicate, refl, ap, ◌∙◌, arith}
+use Rattle.std.proofs.Common.{◌≡◌, length, ap, ◌∙◌, arith}
 use Rattle.std.proofs.lemmas.List.{length-replicate}
-use Rattle.ndis_base.specs.declared.ModuleState.TheVariants as state
-use Rattle.stack_ledger.specs.Inside.{counters}
 use Rattle.stack_ledger.proofs.Begun.{begun, modules_of, port_of}
 use Rattle.stack_ledger.proofs.ledger.StackLedger.make.Goals as goal
 
