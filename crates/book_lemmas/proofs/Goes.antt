@@ -56,7 +56,7 @@ did_then seats a b c net xs ys s t = record {
 }
 
 pub used_none : (t : TrayView) → HasUsed t [] t
-used_none t = record { rows_used = omega arith; frames = omega arith; bytes = omega arith; slack = omega arith; turns = refl }
+used_none t = record { rows_used = omega arith; frames = omega arith; bytes = omega arith; slack = omega arith; turns = omega arith }
 
 pub used_then : (a b c : TrayView) (xs ys : List Row) → HasUsed a xs b → HasUsed b ys c → HasUsed a (xs ++ ys) c
 used_then a b c xs ys g k = record {
@@ -64,7 +64,7 @@ used_then a b c xs ys g k = record {
   frames = omega (arith, g.frames, k.frames, sum_by-append row_frames xs ys);
   bytes = omega (arith, g.bytes, k.bytes, sum_by-append row_bytes xs ys);
   slack = omega (arith, g.slack, k.slack, count_by-append is_way xs ys);
-  turns = k.turns ∙ g.turns;
+  turns = omega (arith, g.turns, k.turns);
 }
 
 pub goes_none : (seats : List (ℕ × ℕ)) (b : BookView) → Goes seats b b []

@@ -32,7 +32,7 @@ pub record HasUsed (before : TrayView) (rows : List Row) (t : TrayView) : Type 0
   pub frames : before.room.frames ≤ t.room.frames + sum_by row_frames rows
   pub bytes : before.room.bytes ≤ t.room.bytes + sum_by row_bytes rows
   pub slack : before.slack ≤ t.slack + count_by is_way rows
-  pub turns : t.room.turns ≡ before.room.turns
+  pub turns : before.room.turns ≤ t.room.turns
 
 -- these rows were written, nothing else of the journal changed, and the drivers did what the rows say
 pub record Goes (seats : List (ℕ × ℕ)) (old new : BookView) (more : List Row) : Type 0 where

@@ -1,0 +1,4 @@
+//! Which of the drivers that are handed in a stack takes, generic in the drivers.
+#![tactic(auto)]
+
+pub mod choosing;
