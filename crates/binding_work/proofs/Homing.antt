@@ -160,7 +160,7 @@ home_event old t mid binding l status s' k i b turns begins spends sent =
         (subst (λ cs. InHomeBy old t binding l status cs (spent (called_with t m pool) l status mid.pool)) calls done) in
     let ends = ends_call (protocol_called old.held binding s' mid.pool) t.pool k g did
         (subst (λ ks. IsCalled old.held (protocol_called old.held binding s' mid.pool) m ks mid.pool) (ap (λ (x : ProtocolState). x.kept) sent.same) (protocol_is_called old.held binding s' mid.pool b.protocols b.pools))
-        (protocol_leaves old.held binding s' mid.pool b.protocols b.pools (ap (λ (x : ProtocolState). x.is_open) sent.same) did.size did.bytes) k.stands.ring
+        (protocol_leaves old.held binding s' mid.pool b.protocols b.pools (ap (λ (x : ProtocolState). x.kind) sent.same) (ap (λ (x : ProtocolState). x.is_open) sent.same) did.size did.bytes) k.stands.ring
         (did_protocol old.held s' mid.pool did b.protocols (refl, tt) (subst (λ (x : ProtocolState). Counts m (call m called.SendComplete) [] s.did x.did) (sym sent.same) (counts_call m called.SendComplete s.did))) in
     let outcome_is = pump_is old.tray.net o.x false o.first in
     record {
