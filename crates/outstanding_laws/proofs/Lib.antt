@@ -1,0 +1,5 @@
+pub mod Rows
+pub mod Routes
+pub mod Moves
+pub mod Events
+pub mod Turns
