@@ -3,3 +3,4 @@ pub mod Routes
 pub mod Moves
 pub mod Events
 pub mod Turns
+pub mod Ways

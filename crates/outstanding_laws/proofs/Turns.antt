@@ -249,7 +249,7 @@ module _ (ms other : Modules) (r : IsRouted ms other) where
   fits_same sends owner last (stand.Passed (way.Back status) to) h = h
 
 -- no filter is twice in the order
-distinct_of : (net : Net) (s : IsShaped net) → IsDistinct net.modules.order
+pub distinct_of : (net : Net) (s : IsShaped net) → IsDistinct net.modules.order
 distinct_of net s = by net.phase refl
   where
     by : (p : Phase) → net.phase ≡ p → IsDistinct net.modules.order
