@@ -69,8 +69,8 @@ use Rattle.place_laws.proofs.Looks.{look}
 use Rattle.place_laws.proofs.Keepers.{all_found, IsKeptLive, kept_live}
 use Rattle.outstanding_laws.specs.Outstanding.{passes_receives}
 use Rattle.outstanding_laws.proofs.Rows.{May, Fits, IsLoose, has_back, has_known, give_loose, still_loose, home_good, home_held, issue_good, look_new, skip_good, kin_pass}
-use Rattle.outstanding_laws.proofs.Routes.{up_to, on_from, issue_on}
-use Rattle.outstanding_laws.proofs.Moves.{Facts, may_or_up, Going, Holds, Kin, Leaves, MayHave, begins, kin_begins, down_leaves, miniport_leaves, indicated_goes, sent_goes, IsKeptBy, kept_by, kept_home, kept_back, transmitted_leaves, homeward_leaves, done_may, delivered_goes, go_up_back, delivery_leaves, up_leaves}
+use Rattle.outstanding_laws.proofs.Routes.{and_first, passer_low, up_to, on_from, issue_on}
+use Rattle.outstanding_laws.proofs.Moves.{Facts, not_full, may_or_up, Going, Holds, Kin, Leaves, MayHave, begins, kin_begins, down_leaves, miniport_leaves, indicated_goes, sent_goes, IsKeptBy, kept_by, kept_home, kept_back, transmitted_leaves, homeward_leaves, done_may, delivered_goes, go_up_back, delivery_leaves, up_leaves}
 
 -- rows that move no list
 abbrev AreSkipped : List Row → Type 0
@@ -140,7 +140,7 @@ module _ (net : Net) (facts : Facts net) where
   moved_leaves l (stand.Passed way.Up (Module Miniport)) keeps e f = begins net facts
   moved_leaves l (stand.Passed way.Up (Module (Filter g))) keeps e f = up_leaves net facts l g keeps (fits_at l (stand.Passed way.Up (Module (Filter g))) e f).0 (up_may l g e f)
   moved_leaves l (stand.Passed way.Up (Module (Binding b))) keeps e f = begins net facts
-  moved_leaves l (stand.Passed way.Up Bindings) keeps e f = delivery_leaves net facts l keeps (fits_at l (stand.Passed way.Up Bindings) e f).0 f
+  moved_leaves l (stand.Passed way.Up Bindings) keeps e f = let k = fits_at l (stand.Passed way.Up Bindings) e f in delivery_leaves net facts l keeps k.0 (omega (arith, passer_low net.modules l.last k.1.0, k.1.1.1)) f
   moved_leaves l (stand.Passed (way.Done status) (Module m)) keeps e f = homeward_leaves net facts l m status f (inl (done_may net facts l m status f e))
   moved_leaves l (stand.Passed (way.Done status) Bindings) keeps e f = begins net facts
   moved_leaves l (stand.Passed (way.Back status) (Module m)) keeps e f = homeward_leaves net facts l m status f (inr (fits_at l (stand.Passed (way.Back status) (Module m)) e f))
@@ -179,7 +179,7 @@ module _ (net : Net) (facts : Facts net) where
   returns_leaves : (b : ℕ) → Leaves net facts (returns_all net b)
   returns_leaves b =
       by_test (Leaves net facts) (is_retain (kind_of_binding net.head b)) _ _
-      (λ _. steps_map (Going net facts) (IsKeptBy net facts (Binding b)) (returned_by net) (λ next l r g. go_up_back net facts next l 0 Success r.found r.may g) (ready_lists net (Binding b)) net (all_ready (Binding b)) (begins net facts))
+      (λ _. steps_map (Going net facts) (IsKeptBy net facts (Binding b)) (returned_by net) (λ next l r g. go_up_back net facts next l 0 Success r.found r.may.0 g) (ready_lists net (Binding b)) net (all_ready (Binding b)) (begins net facts))
       (λ _. begins net facts)
 
   -- what a filter passes on
@@ -259,7 +259,7 @@ module _ (net : Net) (facts : Facts net) where
       let f : ModuleId = Filter a.filter in
       let n : ListNo = list_no (net.next.list + 1) in
       home_lent (after_rows next (row.Issue n f (config_no net.modules.config) direction.Up None (origin.Copy list) frames ∷ onward net.modules n direction.Up (position net.modules.order f) ∷ [])) list Success
-      (issue_on net.modules net facts.below facts.distinct next n f (config_no net.modules.config) direction.Up None (origin.Copy list) frames (position net.modules.order f) h.next_is refl (λ t. absurd (cc)) (λ t. may) h.going)
+      (issue_on net.modules net facts.below facts.distinct next n f (config_no net.modules.config) direction.Up None (origin.Copy list) frames (position net.modules.order f) h.next_is (and_first (is_in a.filter net.modules.order) (has_receive net.modules a.filter) may) refl (λ t. absurd (cc)) (λ t. may) h.going)
 
   lent_handled_leaves : (next : Net) (a : Attached) (list : ListNo) (frames : List (List ℕ)) (further : List Row) (o : Option (List (List ℕ))) → passes_receives net.modules (Filter a.filter) ≡ true → IsLending list next → Going net facts (after_rows next further) → Going net facts (after_rows next (lent_handled net a list frames further o))
   lent_handled_leaves next a list frames further None may h k = back_lent next list (Filter a.filter) Dropped h.going
@@ -340,7 +340,7 @@ module _ (net : Net) (facts : Facts net) where
       let list : ListNo = list_no net.next.list in
       let next : Net = after net (row.Issue list Miniport (config_no net.modules.config) direction.Lent None origin.Root frames) in
       let lending : IsLending list next = record {
-        going = issue_good net.modules net facts.below net list Miniport (config_no net.modules.config) direction.Lent None origin.Root frames refl (begins net facts);
+        going = issue_good net.modules net facts.below net list Miniport (config_no net.modules.config) direction.Lent None origin.Root frames refl tt (begins net facts);
         loose = λ x f. ap (λ (y : LiveList). y.stand) (sym (one_found (look next list.0) _ x (look_new net.modules net facts.below net list Miniport (config_no net.modules.config) direction.Lent None origin.Root frames refl facts.below) f));
         next_is = refl;
       } in
@@ -354,7 +354,7 @@ module _ (net : Net) (facts : Facts net) where
       (λ t.
       let number : l.list.0 ≡ n = (find_is n (lists net.things) l e).0 in
       let kept : IsKeptBy net facts (Binding b) l = kept_by net facts (Binding b) l (ap (look net) number ∙ e) (kept_is (Binding b) l.stand t) in
-      go_up_back net facts net l 0 Success kept.found kept.may (begins net facts))
+      go_up_back net facts net l 0 Success kept.found kept.may.0 (begins net facts))
       (λ _. begins net facts)
 
   take_leaves : (o : Option LiveList) → Leaves net facts (take_of net o).rows
@@ -392,7 +392,7 @@ module _ (net : Net) (facts : Facts net) where
       let K : Outcome → Type 0 = λ o. Leaves net facts o.rows in
       by_test K (phase_is_running net.phase) _ _
       (λ t. by_test K (is_full net (Binding binding)) _ _ (λ _. begins net facts)
-      (λ _. sent_goes net facts net net.next.list binding cancel frames refl (begins net facts)))
+      (λ t. sent_goes net facts net net.next.list binding cancel frames refl (not_full net facts binding t) (begins net facts)))
       (λ _. begins net facts)
   plain_leaves (event.Indicate frames) c p =
       let K : Outcome → Type 0 = λ o. Leaves net facts o.rows in
@@ -420,7 +420,7 @@ module _ (net : Net) (facts : Facts net) where
       by_test K (phase_is_running net.phase) _ _
       (λ t. by_test K (list_any (is_too_long_tagged net.head) frames) _ _ (λ _. begins net facts)
       (λ _. by_test K (is_full net (Binding (mux_binding_for net.head stack))) _ _ (λ _. begins net facts)
-      (λ _. sent_goes net facts (after net (row.CrossIn stack message crossing.Down frames)) net.next.list (mux_binding_for net.head stack) None _ refl
+      (λ t. sent_goes net facts (after net (row.CrossIn stack message crossing.Down frames)) net.next.list (mux_binding_for net.head stack) None _ refl (not_full net facts (mux_binding_for net.head stack) t)
       (skip_good net.modules net facts.below net (row.CrossIn stack message crossing.Down frames) refl (begins net facts)))))
       (λ _. begins net facts)
   plain_leaves (event.CrossDone message status) c p = done_leaves status (find (λ l. is_in_message message.0 l.crossed) (lists net.things)) (λ l e. message_kept message.0 l e)

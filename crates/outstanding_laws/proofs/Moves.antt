@@ -1,6 +1,7 @@
 -- A list at a filter, at the miniport, at the bindings and on its way home.
-use Rattle.std.proofs.Common.{◌≡◌, ℕ, ◌+◌, ◌<◌, ◌≤◌, ◌==◌, ◌&&◌, ◌⊎◌, inl, inr, Bool, true, false, List, [], ◌∷◌, ◌++◌, Option, Some, None, refl, arith, ap, sym, subst, ◌∙◌}
+use Rattle.std.proofs.Common.{◌≡◌, ℕ, ◌+◌, ◌<◌, ◌≤◌, ◌==◌, ◌&&◌, ◌⊎◌, inl, inr, Bool, true, false, List, [], ◌∷◌, ◌++◌, Option, Some, None, nat_lt, not, length, count_by, refl, arith, ap, sym, subst, ◌∙◌}
 use Rattle.std.proofs.lemmas.Bool.Decides.{nat_tests}
+use Rattle.std.proofs.lemmas.List.{get_or_past}
 use Rattle.ndis_base.specs.declared.ModuleId.{ModuleId}
 use Rattle.ndis_base.specs.declared.ModuleId.TheVariants.{Miniport, Filter, Binding}
 use Rattle.ndis_base.specs.declared.ListNo.{ListNo}
@@ -9,6 +10,8 @@ use Rattle.ndis_base.specs.declared.ListStatus.TheVariants.{Success, Paused, Res
 use Rattle.ndis_base.specs.declared.Direction.TheVariants as direction
 use Rattle.ndis_base.specs.declared.Origin.{Origin}
 use Rattle.ndis_base.specs.declared.Origin.TheVariants as origin
+use Rattle.ndis_base.specs.declared.ProtocolKind.{ProtocolKind}
+use Rattle.ndis_base.specs.declared.ProtocolKind.TheVariants as protocol_kind
 use Rattle.journal_types.specs.declared.Handler.{Handler}
 use Rattle.journal_types.specs.declared.Handler.TheVariants as handler
 use Rattle.journal_types.specs.declared.PassWay.TheVariants as way
@@ -21,10 +24,10 @@ use Rattle.stack_rules.specs.declared.LiveList.{LiveList}
 use Rattle.stack_rules.specs.declared.Attached.{Attached}
 use Rattle.stack_rules.specs.declared.Stand.{Stand}
 use Rattle.stack_rules.specs.declared.Stand.TheVariants as stand
-use Rattle.stack_rules.specs.Tests.{is_down, is_hold, is_running, is_retain, phase_is_running, same_frames, same_module}
+use Rattle.stack_rules.specs.Tests.{is_down, is_hold, is_running, is_retain, is_echo, phase_is_running, same_frames, same_module}
 use Rattle.stack_rules.specs.Heads.{kind_of_binding}
 use Rattle.stack_rules.specs.Net.{Net, after, after_rows, attached, lists, list_of}
-use Rattle.stack_rules.specs.Places.{position, is_crossed, is_full}
+use Rattle.stack_rules.specs.Places.{position, is_crossed, is_full, owned, pool_of}
 use Rattle.stack_rules.specs.Targets.{has_send, has_receive, onward, homeward, turned_back}
 use Rattle.stack_rules.specs.Rewires.{is_in}
 use Rattle.stack_rules.specs.Outcome.{list_no, config_no, root}
@@ -33,12 +36,16 @@ use Rattle.stack_rules.specs.Sends.{ring_is_full, at_filter, down_rows, loops, t
 use Rattle.stack_rules.specs.Deliveries.{takers, echoes, echoed, how_for, delivered, last_of, settled}
 use Rattle.stack_rules.specs.Receives.{up_at_filter, up_rows}
 use Rattle.stack_rules.specs.Dones.{released, released_list, homeward_rows, completed_by}
-use Rattle.rule_basics.specs.Live.{IsApart}
+use Rattle.rule_basics.specs.Live.{IsApart, Each}
+use Rattle.rule_basics.proofs.Each.{Each-implies}
+use Rattle.rule_basics.proofs.Counts.{one_if, count_by-cons}
 use Rattle.rule_basics.proofs.Lives.{find_is}
 use Rattle.state_laws.specs.Shape.{IsDistinct}
+use Rattle.state_laws.specs.Laws.{IsThere}
 use Rattle.state_laws.proofs.Rows.{by_test, after_rows-append}
 use Rattle.state_laws.proofs.Takes.{attached-is}
 use Rattle.place_laws.proofs.Good.{one_found}
+use Rattle.place_laws.proofs.Keepers.{all_found}
 use Rattle.place_laws.proofs.Looks.{look, issued, look_keep}
 use Rattle.outstanding_laws.specs.Outstanding.{passes_sends, passes_receives}
 use Rattle.outstanding_laws.proofs.Rows.{May, MayKeep, Fits, IsRight, All, IsKin, Goes, Has, has_give, has_known, keep_held, keep_good, issue_good, issue_held, look_new, home_good, skip_good, kin_pass, kin_home, kin_issue, starts, kin_starts}
@@ -50,6 +57,8 @@ pub record Facts (net : Net) : Type 0 where
   pub apart : IsApart (lists net.things)
   pub below : All (λ k x. k < net.next.list) net
   pub right : All (λ k x. IsRight net.modules x) net
+  pub there : All (λ k x. IsThere net x.owner) net
+  pub many : length net.modules.bindings ≡ length net.head.bindings
   pub originals : (c l : LiveList) (o : ListNo) → look net c.list.0 ≡ Some c → c.origin ≡ origin.Clone o → look net o.0 ≡ Some l → l.stand ≡ stand.Kept c.owner
   pub crossed : (l : LiveList) → look net l.list.0 ≡ Some l → is_crossed l.crossed ≡ true → l.stand ≡ stand.Kept Miniport
 
@@ -57,7 +66,7 @@ pub record Facts (net : Net) : Type 0 where
 pub may_or_up : (net : Net) (sends : Bool) (owner m : ModuleId) → MayKeep net.modules sends owner m → May net.modules sends owner m ⊎ (sends ≡ false)
 may_or_up net sends owner Miniport h = inl h
 may_or_up net sends owner (Filter f) h = inl h
-may_or_up net sends owner (Binding b) h = inr h
+may_or_up net sends owner (Binding b) h = inr h.0
 
 module _ (net : Net) (facts : Facts net) where
   abbrev pub Going : Net → Type 0
@@ -78,7 +87,7 @@ module _ (net : Net) (facts : Facts net) where
     pub may : May net.modules (is_down l.direction) l.owner m
 
   pub begins : Going net
-  begins = starts net.modules net facts.below facts.right
+  begins = starts net.modules net facts.below facts.right facts.there
 
   pub kin_begins : Kin net
   kin_begins = kin_starts net.modules net facts.below
@@ -122,7 +131,7 @@ module _ (net : Net) (facts : Facts net) where
       let small : l.list.0 < net.next.list = facts.below l.list.0 l m.found in
       let here : look third n.0 ≡ Some new = (look_keep second l.list f).others n.0 (more_apart l.list.0 net.next.list small) ∙ look_new net.modules net facts.below first n f (config_no net.modules.config) l.direction l.cancel (origin.Clone l.list) frames (sym e) h.below in
       let is : (x : LiveList) → look third n.0 ≡ Some x → new ≡ x = λ x g. one_found (look third n.0) new x here g in
-      let held : Holds l.list.0 f second = issue_held net.modules net facts.below first l.list.0 f n f (config_no net.modules.config) l.direction l.cancel (origin.Clone l.list) frames (sym e) (omega (arith, small, e)) h in
+      let held : Holds l.list.0 f second = issue_held net.modules net facts.below first l.list.0 f n f (config_no net.modules.config) l.direction l.cancel (origin.Clone l.list) frames (sym e) (there a.filter l m) (omega (arith, small, e)) h in
       go_on net.modules net facts.below facts.distinct third n f l.direction f (position net.modules.order f) refl
       (λ x g. (ap (λ (y : LiveList). y.owner) (sym (is x g)), ap (λ (y : LiveList). y.direction) (sym (is x g))))
       (λ t. (omega arith, filter_most net.modules net facts.below facts.distinct a.filter (there a.filter l m)))
@@ -165,11 +174,11 @@ module _ (net : Net) (facts : Facts net) where
   -- a new list of the miniport, and one of a binding, goes on
   pub indicated_goes : (next : Net) (n : ℕ) (frames : List (List ℕ)) → n ≡ next.next.list → Going next → Going (after_rows next (root net n Miniport direction.Up None frames ∷ onward net.modules (list_no n) direction.Up (position net.modules.order Miniport) ∷ []))
   indicated_goes next n frames e h =
-      issue_on net.modules net facts.below facts.distinct next (list_no n) Miniport (config_no net.modules.config) direction.Up None origin.Root frames (position net.modules.order Miniport) e refl (λ t. absurd (cc)) (λ t. refl) h
+      issue_on net.modules net facts.below facts.distinct next (list_no n) Miniport (config_no net.modules.config) direction.Up None origin.Root frames (position net.modules.order Miniport) e tt refl (λ t. absurd (cc)) (λ t. refl) h
 
-  pub sent_goes : (next : Net) (n b : ℕ) (cancel : Option ℕ) (frames : List (List ℕ)) → n ≡ next.next.list → Going next → Going (after_rows next (root net n (Binding b) direction.Down cancel frames ∷ onward net.modules (list_no n) direction.Down 0 ∷ []))
-  sent_goes next n b cancel frames e h =
-      issue_on net.modules net facts.below facts.distinct next (list_no n) (Binding b) (config_no net.modules.config) direction.Down cancel origin.Root frames 0 e refl (λ t. omega arith) (λ t. absurd (cc)) h
+  pub sent_goes : (next : Net) (n b : ℕ) (cancel : Option ℕ) (frames : List (List ℕ)) → n ≡ next.next.list → b < length net.modules.bindings → Going next → Going (after_rows next (root net n (Binding b) direction.Down cancel frames ∷ onward net.modules (list_no n) direction.Down 0 ∷ []))
+  sent_goes next n b cancel frames e few h =
+      issue_on net.modules net facts.below facts.distinct next (list_no n) (Binding b) (config_no net.modules.config) direction.Down cancel origin.Root frames 0 e few refl (λ t. omega arith) (λ t. absurd (cc)) h
 
   -- a list that a module keeps goes homewards
   kept_known : (next : Net) (l : LiveList) (m : ModuleId) → look net l.list.0 ≡ Some l → l.last ≡ m → Kin next → Going next → Holds l.list.0 m next
@@ -264,6 +273,60 @@ module _ (net : Net) (facts : Facts net) where
       let to = done_to net.modules net facts.below facts.distinct (position net.modules.order l.last) l.owner m f.1.1.0 (not_same m l.owner t) in
       record { found = found; may = record { sent = λ _. (to.passes, to.below); risen = λ u. absurd (cc (sym f.0 ∙ u)) } }
 
+  -- a binding that isn't full is one of the stack's
+  none_owned : (b : ℕ) (ls : List LiveList) → length net.modules.bindings ≤ b → Each (λ l. IsThere net l.owner) ls → count_by (λ l. same_module l.owner (Binding b)) ls ≡ 0
+  none_owned b [] a h = refl
+  none_owned b (l ∷ ls) a h =
+      let here : one_if (same_module l.owner (Binding b)) ≡ 0 = ap one_if (other l.owner h.0) in
+      omega (arith, count_by-cons (λ x. same_module x.owner (Binding b)) l ls, here, none_owned b ls a h.1)
+    where
+      other : (m : ModuleId) → IsThere net m → same_module m (Binding b) ≡ false
+      other Miniport t = refl
+      other (Filter f) t = refl
+      other (Binding c) t = grind (arith, nat_tests)
+
+  all_there : Each (λ l. IsThere net l.owner) (lists net.things)
+  all_there = Each-implies (λ l. look net l.list.0 ≡ Some l) (λ l. IsThere net l.owner) (λ l e. facts.there l.list.0 l e) (lists net.things) (all_found (lists net.things) facts.apart)
+
+  is_few : (b : ℕ) (Q : Type 0) → (length net.modules.bindings ≤ b → Q → ⊥) → Q → b < length net.modules.bindings
+  is_few b Q h q = by (nat_lt b (length net.modules.bindings)) refl
+    where
+      by : (c : Bool) → nat_lt b (length net.modules.bindings) ≡ c → b < length net.modules.bindings
+      by true t = grind (arith, nat_tests)
+      by false t = let past : length net.modules.bindings ≤ b = grind (arith, nat_tests) in absurd (h past q)
+
+  pub not_full : (b : ℕ) → is_full net (Binding b) ≡ false → b < length net.modules.bindings
+  not_full b t =
+      is_few b (is_full net (Binding b) ≡ false)
+      (λ past e.
+      let no_pool : pool_of net (Binding b) ≡ 0 = ap (λ (p : ProtocolKind × ℕ). p.1) (get_or_past net.head.bindings b (protocol_kind.Log, 0) (omega (arith, past, facts.many))) in
+      let none : owned net (Binding b) ≡ 0 = none_owned b (lists net.things) past all_there in
+      full (owned net (Binding b)) (pool_of net (Binding b)) none no_pool e) t
+    where
+      full : (a b : ℕ) → a ≡ 0 → b ≡ 0 → (a == b) ≡ false → ⊥
+      full a b h k t = grind (arith, nat_tests)
+
+  and_last : (a b : Bool) → (a && b) ≡ true → b ≡ true
+  and_last true b h = h
+  and_last false b h = cc
+
+  echo_few : (b : ℕ) → echoes net b ≡ true → b < length net.modules.bindings
+  echo_few b t = not_full b (off (is_full net (Binding b)) (and_last (phase_is_running net.phase) _ (and_last (is_echo (kind_of_binding net.head b)) _ t)))
+    where
+      off : (c : Bool) → not c ≡ true → c ≡ false
+      off true h = cc
+      off false h = refl
+
+  retain_few : (b : ℕ) → is_retain (kind_of_binding net.head b) ≡ true → b < length net.modules.bindings
+  retain_few b t =
+      is_few b (is_retain (kind_of_binding net.head b) ≡ true)
+      (λ past e.
+      let none : kind_of_binding net.head b ≡ protocol_kind.Log = ap (λ (p : ProtocolKind × ℕ). p.0) (get_or_past net.head.bindings b (protocol_kind.Log, 0) (omega (arith, past, facts.many))) in
+      log (kind_of_binding net.head b) none e) t
+    where
+      log : (k : ProtocolKind) → k ≡ protocol_kind.Log → is_retain k ≡ true → ⊥
+      log k h t = let off : is_retain protocol_kind.Log ≡ true = ap is_retain (sym h) ∙ t in cc
+
   -- only echo bindings issue lists
   pub delivered_goes : (next : Net) (list : ListNo) (frames : List (List ℕ)) (own : How) (n : ℕ) (bs : List ℕ) → n ≡ next.next.list → Going next → Going (after_rows next (delivered net list frames own n bs))
   delivered_goes next list frames own n [] e h = h
@@ -271,27 +334,28 @@ module _ (net : Net) (facts : Facts net) where
       let first : Net = after next (row.Deliver list b (how_for own bs) frames) in
       let g : Going first = skip_good net.modules net facts.below next (row.Deliver list b (how_for own bs) frames) refl h in
       by_test (λ rows. Going (after_rows first rows)) (echoes net b) _ _
-      (λ t. delivered_goes (after_rows first (echoed net n b frames)) list frames own (n + 1) bs (ap (λ i. i + 1) e) (sent_goes first n b None frames e g))
+      (λ t. delivered_goes (after_rows first (echoed net n b frames)) list frames own (n + 1) bs (ap (λ i. i + 1) e) (sent_goes first n b None frames e (echo_few b t) g))
       (λ t. delivered_goes first list frames own n bs e g)
 
   pub go_up_back : (next : Net) (l : LiveList) (i : ℕ) (status : ListStatus) → look net l.list.0 ≡ Some l → is_down l.direction ≡ false → Going next → Going (after next (homeward net.modules l i status))
   go_up_back next l i status found up h = go_back net.modules net facts.below facts.distinct next l.list l.owner l.direction i status up (good_as net.modules net facts.below facts.distinct next l found h) h
 
-  settled_leaves : (next : Net) (l : LiveList) (keeps : Bool) (o : Option ℕ) → is_down l.direction ≡ false → look net l.list.0 ≡ Some l → Going next → Going (after_rows next (settled net l keeps o))
-  settled_leaves next l keeps None up found h = go_up_back next l 0 Success found up h
-  settled_leaves next l keeps (Some b) up found h =
+  settled_leaves : (next : Net) (l : LiveList) (keeps : Bool) (o : Option ℕ) → is_down l.direction ≡ false → 0 < position net.modules.order l.owner → look net l.list.0 ≡ Some l → Going next → Going (after_rows next (settled net l keeps o))
+  settled_leaves next l keeps None up low found h = go_up_back next l 0 Success found up h
+  settled_leaves next l keeps (Some b) up low found h =
       by_test (λ rows. Going (after_rows next rows)) (keeps && is_retain (kind_of_binding net.head b)) _ _
-      (λ _. keep_good net.modules net facts.below next l.list (Binding b) (λ x e. ap is_down (good_as net.modules net facts.below facts.distinct next l found h x e).1 ∙ up) h)
+      (λ t. keep_good net.modules net facts.below next l.list (Binding b)
+      (λ x e. let s = good_as net.modules net facts.below facts.distinct next l found h x e in (ap is_down s.1 ∙ up, (retain_few b (and_last keeps _ t), omega (arith, low, ap (position net.modules.order) s.0)))) h)
       (λ _. go_up_back next l 0 Success found up h)
 
   -- an owned list at the bindings
-  pub delivery_leaves : (l : LiveList) (keeps : Bool) → is_down l.direction ≡ false → look net l.list.0 ≡ Some l → Leaves (up_rows net l Bindings keeps)
-  delivery_leaves l keeps up found =
+  pub delivery_leaves : (l : LiveList) (keeps : Bool) → is_down l.direction ≡ false → 0 < position net.modules.order l.owner → look net l.list.0 ≡ Some l → Leaves (up_rows net l Bindings keeps)
+  delivery_leaves l keeps up low found =
       by_test Leaves (phase_is_running net.phase) _ _
       (λ _.
       let rows : List Row = delivered net l.list l.frames how.Own net.next.list (takers net l.frames) in
       subst Going (sym (after_rows-append net rows (settled net l keeps (last_of (takers net l.frames)))))
-      (settled_leaves (after_rows net rows) l keeps (last_of (takers net l.frames)) up found (delivered_goes net l.list l.frames how.Own net.next.list (takers net l.frames) refl begins)))
+      (settled_leaves (after_rows net rows) l keeps (last_of (takers net l.frames)) up low found (delivered_goes net l.list l.frames how.Own net.next.list (takers net l.frames) refl begins)))
       (λ _. back_up net.modules net facts.below facts.distinct net l (Binding 0) Paused found up begins)
 
   -- a receive at a filter

@@ -20,6 +20,7 @@ use Rattle.stack_rules.specs.Places.{position, above}
 use Rattle.stack_rules.specs.Targets.{has_send, has_receive, next_down, next_up, next_done, onward, homeward, homeward_by, turned_back}
 use Rattle.stack_rules.specs.Rewires.{is_in}
 use Rattle.state_laws.specs.Shape.{IsDistinct}
+use Rattle.state_laws.specs.Laws.{IsThere}
 use Rattle.pause_laws.proofs.Places.{found_or}
 use Rattle.place_laws.proofs.Spots.{in_drop, in_take, in_reverse, in_above, take_high, drop_low, drop_take_low}
 use Rattle.place_laws.proofs.Good.{one_found}
@@ -37,6 +38,12 @@ and_first false b h = cc
 pub and_second : (a b : Bool) → (a && b) ≡ true → b ≡ true
 and_second true b h = h
 and_second false b h = cc
+
+-- a module that passes receives is below the bindings
+pub passer_low : (ms : Modules) (m : ModuleId) → passes_receives ms m ≡ true → 1 ≤ position ms.order m
+passer_low ms Miniport h = omega arith
+passer_low ms (Filter f) h = omega arith
+passer_low ms (Binding b) h = absurd (cc)
 
 -- a list of an owner and a direction that is found under a number
 abbrev pub IsOf : Net → ListNo → ModuleId → Direction → Type 0
@@ -166,9 +173,9 @@ module _ (ms : Modules) (start : Net) (begun : All (λ k x. k < start.next.list)
       (λ t. let p = may.sent t in (omega (arith, p.1), filter_most f (and_first (is_in f ms.order) (has_send ms f) p.0))) (λ t. let p = may.risen t in (p.0, omega (arith, p.1))) h
 
   -- a new list goes on from its owner
-  pub issue_on : (net : Net) (list : ListNo) (owner : ModuleId) (config : ConfigNo) (way_of : Direction) (cancel : Option ℕ) (origin : Origin) (frames : List (List ℕ)) (i : ℕ) → list.0 ≡ net.next.list → i ≡ position ms.order owner →
+  pub issue_on : (net : Net) (list : ListNo) (owner : ModuleId) (config : ConfigNo) (way_of : Direction) (cancel : Option ℕ) (origin : Origin) (frames : List (List ℕ)) (i : ℕ) → list.0 ≡ net.next.list → IsThere start owner → i ≡ position ms.order owner →
       (is_down way_of ≡ true → position ms.order owner < length ms.order + 1) → (is_down way_of ≡ false → passes_receives ms owner ≡ true) → Goes ms start begun net → Goes ms start begun (after_rows net (row.Issue list owner config way_of cancel origin frames ∷ onward ms list way_of i ∷ []))
-  issue_on net list owner config way_of cancel origin frames i e at down up h =
+  issue_on net list owner config way_of cancel origin frames i e there at down up h =
       let next : Net = after net (row.Issue list owner config way_of cancel origin frames) in
       let new : LiveList = issued list owner way_of cancel origin frames in
       let here : look next list.0 ≡ Some new = look_new ms start begun net list owner config way_of cancel origin frames e h.below in
@@ -176,4 +183,4 @@ module _ (ms : Modules) (start : Net) (begun : All (λ k x. k < start.next.list)
       go_on next list owner way_of owner i at
       (λ x f. (ap (λ (y : LiveList). y.owner) (sym (is x f)), ap (λ (y : LiveList). y.direction) (sym (is x f))))
       (λ t. (omega (arith, at), omega (arith, at, down t))) (λ t. (up t, omega (arith, at)))
-      (has_known ms start begun next list.0 owner (λ x f. ap (λ (y : LiveList). y.last) (sym (is x f))) (issue_good ms start begun net list owner config way_of cancel origin frames e h))
+      (has_known ms start begun next list.0 owner (λ x f. ap (λ (y : LiveList). y.last) (sym (is x f))) (issue_good ms start begun net list owner config way_of cancel origin frames e there h))

@@ -1,5 +1,5 @@
 -- What each row of a turn leaves of how the live lists were passed: by whom, and to which target.
-use Rattle.std.proofs.Common.{◌≡◌, ℕ, ◌+◌, ◌<◌, ◌≤◌, ◌==◌, Bool, true, false, List, [], ◌∷◌, Option, Some, None, option_map, refl, arith, ap, sym, subst, ◌∙◌}
+use Rattle.std.proofs.Common.{◌≡◌, ℕ, ◌+◌, ◌<◌, ◌≤◌, ◌==◌, Bool, true, false, List, [], ◌∷◌, Option, Some, None, option_map, length, refl, arith, ap, sym, subst, ◌∙◌}
 use Rattle.std.proofs.lemmas.Bool.Decides.{nat_tests}
 use Rattle.ndis_base.specs.declared.ModuleId.{ModuleId}
 use Rattle.ndis_base.specs.declared.ModuleId.TheVariants.{Miniport, Filter, Binding}
@@ -27,6 +27,7 @@ use Rattle.rule_basics.specs.Live.{is_live}
 use Rattle.rule_basics.proofs.Numbered.{lists-things_done, lists-status, lists-without_status}
 use Rattle.place_laws.proofs.Good.{by_number, some_same, one_found, none_found, changed_is}
 use Rattle.place_laws.proofs.Looks.{look, IsUpdate, passing, keeping, issued, look_pass, look_keep, look_give, look_back, look_out, look_home, look_issue, not_live}
+use Rattle.state_laws.specs.Laws.{IsThere}
 use Rattle.pause_laws.proofs.Hands.{is_skipped}
 use Rattle.outstanding_laws.specs.Outstanding.{passes_sends, passes_receives}
 
@@ -39,7 +40,7 @@ pub record May (ms : Modules) (sends : Bool) (owner m : ModuleId) : Type 0 where
 abbrev pub MayKeep : Modules → Bool → ModuleId → ModuleId → Type 0
 MayKeep ms sends owner Miniport = May ms sends owner Miniport
 MayKeep ms sends owner (Filter f) = May ms sends owner (Filter f)
-MayKeep ms sends owner (Binding b) = sends ≡ false
+MayKeep ms sends owner (Binding b) = (sends ≡ false) × ((b < length ms.bindings) × (0 < position ms.order owner))
 
 -- a send goes down to a module that passes it
 abbrev pub GoesDown : Modules → ModuleId → Target → Type 0
@@ -84,10 +85,11 @@ apart_not : (n k : ℕ) → (n == k) ≡ false → n ≡ k → ⊥
 apart_not n k t e = grind (arith, nat_tests)
 
 module _ (ms : Modules) (start : Net) (begun : All (λ k x. k < start.next.list) start) where
-  -- the list is of the owner and the direction that it had
+  -- the list is of the owner and the direction that it had, and the owner is a module of the configuration
   pub record IsSame (k : ℕ) (x : LiveList) : Type 0 where
     pub owner : (l : LiveList) → look start k ≡ Some l → x.owner ≡ l.owner
     pub direction : (l : LiveList) → look start k ≡ Some l → x.direction ≡ l.direction
+    pub there : IsThere start x.owner
 
   pub record IsGood (k : ℕ) (x : LiveList) : Type 0 where
     pub same : IsSame k x
@@ -125,7 +127,7 @@ module _ (ms : Modules) (start : Net) (begun : All (λ k x. k < start.next.list)
   give_by net next n m u h =
       all_changed IsGood (IsHeld n m) net next n (had_by m) u
       (λ k x t p. record { same = p.same; right = λ _. p.right; had = λ e. absurd (apart_not n k t e) })
-      (λ y f p. record { same = record { owner = p.same.owner; direction = p.same.direction }; right = λ t. absurd (apart_not n n t refl); had = λ e. refl }) h
+      (λ y f p. record { same = record { owner = p.same.owner; direction = p.same.direction; there = p.same.there }; right = λ t. absurd (apart_not n n t refl); had = λ e. refl }) h
 
   pub has_give : (net : Net) (list : ListNo) (m : ModuleId) (handler : Handler) → Goes net → Has list.0 m (after net (row.Give list m handler))
   has_give net list m handler h =
@@ -144,7 +146,7 @@ module _ (ms : Modules) (start : Net) (begun : All (λ k x. k < start.next.list)
       record {
         all = all_changed (IsHeld list.0 k) (IsHeld list.0 m) net next list.0 (had_by m) u
             (λ i x t p. record { same = p.same; right = p.right; had = λ e. absurd (apart_not list.0 i t e) })
-            (λ y f p. record { same = record { owner = p.same.owner; direction = p.same.direction }; right = λ t. absurd (apart_not list.0 list.0 t refl); had = λ e. refl }) h.all;
+            (λ y f p. record { same = record { owner = p.same.owner; direction = p.same.direction; there = p.same.there }; right = λ t. absurd (apart_not list.0 list.0 t refl); had = λ e. refl }) h.all;
         below = below_changed net next list.0 (had_by m) u h.below;
         more = h.more;
       }
@@ -164,7 +166,7 @@ module _ (ms : Modules) (start : Net) (begun : All (λ k x. k < start.next.list)
       record {
         all = all_changed (IsHeld list.0 m) IsGood net next list.0 (passing way to) u
             (λ k x t p. record { same = p.same; right = p.right t })
-            (λ y f p. record { same = record { owner = p.same.owner; direction = p.same.direction }; right = subst (λ k. Fits ms (is_down y.direction) y.owner k (stand.Passed way to)) (sym (p.had refl)) (may y f) }) h.all;
+            (λ y f p. record { same = record { owner = p.same.owner; direction = p.same.direction; there = p.same.there }; right = subst (λ k. Fits ms (is_down y.direction) y.owner k (stand.Passed way to)) (sym (p.had refl)) (may y f) }) h.all;
         below = below_changed net next list.0 (passing way to) u h.below;
         more = h.more;
       }
@@ -176,7 +178,7 @@ module _ (ms : Modules) (start : Net) (begun : All (λ k x. k < start.next.list)
       record {
         all = all_changed (IsHeld list.0 k) IsGood net next list.0 (keeping m) u
             (λ i x t p. record { same = p.same; right = p.right t })
-            (λ y f p. record { same = record { owner = p.same.owner; direction = p.same.direction }; right = (refl, may y f) }) h.all;
+            (λ y f p. record { same = record { owner = p.same.owner; direction = p.same.direction; there = p.same.there }; right = (refl, may y f) }) h.all;
         below = below_changed net next list.0 (keeping m) u h.below;
         more = h.more;
       }
@@ -187,7 +189,7 @@ module _ (ms : Modules) (start : Net) (begun : All (λ k x. k < start.next.list)
       let u = look_keep net list m in
       record {
         all = all_changed IsGood IsGood net next list.0 (keeping m) u (λ i x t p. p)
-            (λ y f p. record { same = record { owner = p.same.owner; direction = p.same.direction }; right = (refl, may y f) }) h.all;
+            (λ y f p. record { same = record { owner = p.same.owner; direction = p.same.direction; there = p.same.there }; right = (refl, may y f) }) h.all;
         below = below_changed net next list.0 (keeping m) u h.below;
         more = h.more;
       }
@@ -199,7 +201,7 @@ module _ (ms : Modules) (start : Net) (begun : All (λ k x. k < start.next.list)
       let u = look_pass net list (way.Back status) to in
       record {
         all = all_changed IsGood IsGood net next list.0 (passing (way.Back status) to) u (λ k x t p. p)
-            (λ y f p. record { same = record { owner = p.same.owner; direction = p.same.direction }; right = up y f }) h.all;
+            (λ y f p. record { same = record { owner = p.same.owner; direction = p.same.direction; there = p.same.there }; right = up y f }) h.all;
         below = below_changed net next list.0 (passing (way.Back status) to) u h.below;
         more = h.more;
       }
@@ -212,23 +214,24 @@ module _ (ms : Modules) (start : Net) (begun : All (λ k x. k < start.next.list)
       by None f = not_live list.0 (lists net.things) f
       by (Some x) f = absurd (omega (arith, e, h list.0 x f))
 
-  new_same : (net : Net) (list : ListNo) (x : LiveList) → list.0 ≡ net.next.list → start.next.list ≤ net.next.list → IsSame list.0 x
-  new_same net list x e more = record {
+  new_same : (net : Net) (list : ListNo) (x : LiveList) → list.0 ≡ net.next.list → IsThere start x.owner → start.next.list ≤ net.next.list → IsSame list.0 x
+  new_same net list x e there more = record {
     owner = λ l f. absurd (omega (arith, e, more, begun list.0 l f));
     direction = λ l f. absurd (omega (arith, e, more, begun list.0 l f));
+    there = there;
   }
 
   below_new : (net : Net) (list : ListNo) (next : Net) (new : LiveList) → IsUpdate net next list.0 (Some new) → list.0 ≡ net.next.list → All (IsLow net.next.list) net → All (IsLow (net.next.list + 1)) next
   below_new net list next new u e h =
       all_update (IsLow net.next.list) (IsLow (net.next.list + 1)) net next list.0 (Some new) u (λ k x t p. omega (arith, p)) (λ x f. omega (arith, e)) h
 
-  pub issue_good : (net : Net) (list : ListNo) (owner : ModuleId) (config : ConfigNo) (way_of : Direction) (cancel : Option ℕ) (origin : Origin) (frames : List (List ℕ)) → list.0 ≡ net.next.list → Goes net → Goes (after net (row.Issue list owner config way_of cancel origin frames))
-  issue_good net list owner config way_of cancel origin frames e h =
+  pub issue_good : (net : Net) (list : ListNo) (owner : ModuleId) (config : ConfigNo) (way_of : Direction) (cancel : Option ℕ) (origin : Origin) (frames : List (List ℕ)) → list.0 ≡ net.next.list → IsThere start owner → Goes net → Goes (after net (row.Issue list owner config way_of cancel origin frames))
+  issue_good net list owner config way_of cancel origin frames e there h =
       let next : Net = after net (row.Issue list owner config way_of cancel origin frames) in
       let new : LiveList = issued list owner way_of cancel origin frames in
       let u = look_issue net list owner config way_of cancel origin frames (free_by net list e h.below) in
       record {
-        all = all_update IsGood IsGood net next list.0 (Some new) u (λ k x t p. p) (λ x f. subst (IsGood list.0) (some_same new x f) record { same = new_same net list new e h.more; right = tt }) h.all;
+        all = all_update IsGood IsGood net next list.0 (Some new) u (λ k x t p. p) (λ x f. subst (IsGood list.0) (some_same new x f) record { same = new_same net list new e there h.more; right = tt }) h.all;
         below = below_new net list next new u e h.below;
         more = omega (arith, h.more);
       }
@@ -237,15 +240,15 @@ module _ (ms : Modules) (start : Net) (begun : All (λ k x. k < start.next.list)
   pub look_new : (net : Net) (list : ListNo) (owner : ModuleId) (config : ConfigNo) (way_of : Direction) (cancel : Option ℕ) (origin : Origin) (frames : List (List ℕ)) → list.0 ≡ net.next.list → All (IsLow net.next.list) net → look (after net (row.Issue list owner config way_of cancel origin frames)) list.0 ≡ Some (issued list owner way_of cancel origin frames)
   look_new net list owner config way_of cancel origin frames e h = (look_issue net list owner config way_of cancel origin frames (free_by net list e h)).here
 
-  pub issue_held : (net : Net) (n : ℕ) (m : ModuleId) (list : ListNo) (owner : ModuleId) (config : ConfigNo) (way_of : Direction) (cancel : Option ℕ) (origin : Origin) (frames : List (List ℕ)) → list.0 ≡ net.next.list → n < net.next.list → Has n m net →
+  pub issue_held : (net : Net) (n : ℕ) (m : ModuleId) (list : ListNo) (owner : ModuleId) (config : ConfigNo) (way_of : Direction) (cancel : Option ℕ) (origin : Origin) (frames : List (List ℕ)) → list.0 ≡ net.next.list → IsThere start owner → n < net.next.list → Has n m net →
       Has n m (after net (row.Issue list owner config way_of cancel origin frames))
-  issue_held net n m list owner config way_of cancel origin frames e less h =
+  issue_held net n m list owner config way_of cancel origin frames e there less h =
       let next : Net = after net (row.Issue list owner config way_of cancel origin frames) in
       let new : LiveList = issued list owner way_of cancel origin frames in
       let u = look_issue net list owner config way_of cancel origin frames (free_by net list e h.below) in
       record {
         all = all_update (IsHeld n m) (IsHeld n m) net next list.0 (Some new) u (λ k x t p. p)
-            (λ x f. subst (IsHeld n m list.0) (some_same new x f) record { same = new_same net list new e h.more; right = λ _. tt; had = λ i. absurd (omega (arith, e, less, i)) }) h.all;
+            (λ x f. subst (IsHeld n m list.0) (some_same new x f) record { same = new_same net list new e there h.more; right = λ _. tt; had = λ i. absurd (omega (arith, e, less, i)) }) h.all;
         below = below_new net list next new u e h.below;
         more = omega (arith, h.more);
       }
@@ -277,7 +280,7 @@ module _ (ms : Modules) (start : Net) (begun : All (λ k x. k < start.next.list)
       let u = look_give net list m handler in
       record {
         all = all_changed IsGood IsGood net next list.0 (had_by m) u (λ k x t p. p)
-            (λ y f p. record { same = record { owner = p.same.owner; direction = p.same.direction }; right = subst (λ s. Fits ms (is_down y.direction) y.owner m s) (sym (loose y f)) tt }) h.all;
+            (λ y f p. record { same = record { owner = p.same.owner; direction = p.same.direction; there = p.same.there }; right = subst (λ s. Fits ms (is_down y.direction) y.owner m s) (sym (loose y f)) tt }) h.all;
         below = below_changed net next list.0 (had_by m) u h.below;
         more = h.more;
       }
@@ -309,7 +312,7 @@ module _ (ms : Modules) (start : Net) (begun : All (λ k x. k < start.next.list)
       let next : Net = after net (row.CrossOut message (out.Down list) frames) in
       let u = look_out net message list frames in
       record {
-        all = all_changed IsGood IsGood net next list.0 (taken_by message.0) u (λ k x t p. p) (λ y f p. record { same = record { owner = p.same.owner; direction = p.same.direction }; right = p.right }) h.all;
+        all = all_changed IsGood IsGood net next list.0 (taken_by message.0) u (λ k x t p. p) (λ y f p. record { same = record { owner = p.same.owner; direction = p.same.direction; there = p.same.there }; right = p.right }) h.all;
         below = below_changed net next list.0 (taken_by message.0) u h.below;
         more = h.more;
       }
@@ -337,9 +340,9 @@ module _ (ms : Modules) (start : Net) (begun : All (λ k x. k < start.next.list)
       let u = look_issue net list owner config way_of cancel origin frames (free_by net list e g.below) in
       all_update IsKin IsKin net next list.0 (Some (issued list owner way_of cancel origin frames)) u (λ k x t p. p) (λ x f l s. absurd (omega (arith, e, g.more, begun list.0 l s))) h
 
-  pub starts : All (λ k x. IsRight ms x) start → Goes start
-  starts h = record {
-    all = λ k x f. record { same = record { owner = λ l e. ap (λ (y : LiveList). y.owner) (one_found (look start k) x l f e); direction = λ l e. ap (λ (y : LiveList). y.direction) (one_found (look start k) x l f e) }; right = h k x f };
+  pub starts : All (λ k x. IsRight ms x) start → All (λ k x. IsThere start x.owner) start → Goes start
+  starts h there = record {
+    all = λ k x f. record { same = record { owner = λ l e. ap (λ (y : LiveList). y.owner) (one_found (look start k) x l f e); direction = λ l e. ap (λ (y : LiveList). y.direction) (one_found (look start k) x l f e); there = there k x f }; right = h k x f };
     below = begun;
     more = omega arith;
   }

@@ -1,5 +1,5 @@
 -- After each sound journal each list was passed as it should be.
-use Rattle.std.proofs.Common.{◌≡◌, ℕ, ◌+◌, ◌-◌, ◌<◌, ◌≤◌, ◌==◌, ◌&&◌, ◌||◌, ◌⊎◌, inl, inr, not, nat_lt, slice_index_or, filter, option_map, Bool, true, false, cond, List, [], ◌∷◌, ◌++◌, Option, Some, None, length, map, reverse, take, drop, refl, arith, ap, sym, subst, ◌∙◌}
+use Rattle.std.proofs.Common.{◌≡◌, ℕ, ◌+◌, ◌-◌, ◌<◌, ◌≤◌, ◌==◌, ◌&&◌, ◌||◌, ◌⊎◌, inl, inr, not, nat_lt, slice_index_or, filter, option_map, Bool, true, false, cond, List, [], ◌∷◌, ◌++◌, Option, Some, None, length, replicate, map, reverse, take, drop, refl, arith, ap, sym, subst, ◌∙◌}
 use Rattle.ndis_base.specs.declared.ModuleId.{ModuleId}
 use Rattle.ndis_base.specs.declared.ModuleId.TheVariants.{Miniport, Filter, Binding}
 use Rattle.ndis_base.specs.declared.ListNo.{ListNo}
@@ -35,6 +35,8 @@ use Rattle.stack_rules.specs.Sound.{Next, outcome, SoundFrom, Sound}
 use Rattle.rule_basics.specs.Live.{Each}
 use Rattle.rule_basics.proofs.Each.{Each-found, Each-implies}
 use Rattle.rule_basics.proofs.Lives.{find_is}
+use Rattle.std.proofs.lemmas.List.{length-set, length-replicate}
+use Rattle.state_laws.specs.Laws.{IsThere}
 use Rattle.state_laws.specs.Shape.{IsDistinct, IsShaped}
 use Rattle.state_laws.proofs.Rows.{by_test, IsSame}
 use Rattle.state_laws.proofs.Quiet.{is_plain}
@@ -54,17 +56,18 @@ use Rattle.outstanding_laws.proofs.Rows.{May, MayKeep, GoesDown, Fits, IsRight, 
 use Rattle.outstanding_laws.proofs.Moves.{Facts, Going}
 use Rattle.outstanding_laws.proofs.Events.{plain_leaves}
 
--- the same filters with the same handlers
+-- as many bindings, and the same filters with the same handlers
 record IsRouted (ms other : Modules) : Type 0 where
+  bindings : length other.bindings ≡ length ms.bindings
   order : other.order ≡ ms.order
   sends : (f : ℕ) → has_send other f ≡ has_send ms f
   receives : (f : ℕ) → has_receive other f ≡ has_receive ms f
 
 routed_refl : (ms : Modules) → IsRouted ms ms
-routed_refl ms = record { order = refl; sends = λ f. refl; receives = λ f. refl }
+routed_refl ms = record { bindings = refl; order = refl; sends = λ f. refl; receives = λ f. refl }
 
 routed_then : (a b c : Modules) → IsRouted a b → IsRouted b c → IsRouted a c
-routed_then a b c h k = record { order = k.order ∙ h.order; sends = λ f. k.sends f ∙ h.sends f; receives = λ f. k.receives f ∙ h.receives f }
+routed_then a b c h k = record { bindings = k.bindings ∙ h.bindings; order = k.order ∙ h.order; sends = λ f. k.sends f ∙ h.sends f; receives = λ f. k.receives f ∙ h.receives f }
 
 -- a filter's state changes nothing of its handlers
 handlers_same : (g f : ℕ) (s : ModuleState) (entries : List Attached) → handlers_of (attached g (map (with_state f s) entries)) ≡ handlers_of (attached g entries)
@@ -75,10 +78,11 @@ handlers_same g f s entries = ap handlers_of (attached-with_state g f s entries)
     at (Some a) = elim (a.filter == f) as (λ b. handlers_of (Some (cond b (record a { state = s }) a)) ≡ handlers_of (Some a)) [ true ↦ refl | false ↦ refl ]
 
 state_routed : (ms : Modules) (m : ModuleId) (s : ModuleState) → is_detached s ≡ false → IsRouted ms (modules_after ms m s)
-state_routed ms Miniport s d = record { order = refl; sends = λ f. refl; receives = λ f. refl }
-state_routed ms (Binding b) s d = record { order = refl; sends = λ f. refl; receives = λ f. refl }
+state_routed ms Miniport s d = record { bindings = refl; order = refl; sends = λ f. refl; receives = λ f. refl }
+state_routed ms (Binding b) s d = record { bindings = length-set ms.bindings b s; order = refl; sends = λ f. refl; receives = λ f. refl }
 state_routed ms (Filter g) s d =
     subst (λ b. IsRouted ms (record ms { filters = cond b (filter (λ a. not (a.filter == g)) ms.filters) (map (with_state g s) ms.filters) })) (sym d) record {
+      bindings = refl;
       order = refl;
       sends = λ f. ap (λ (h : Handlers). h.send) (handlers_same f g s ms.filters);
       receives = λ f. ap (λ (h : Handlers). h.receive) (handlers_same f g s ms.filters);
@@ -234,7 +238,7 @@ module _ (ms other : Modules) (r : IsRouted ms other) where
   keep_same : (sends : Bool) (owner m : ModuleId) → MayKeep ms sends owner m → MayKeep other sends owner m
   keep_same sends owner Miniport h = may_same sends owner Miniport h
   keep_same sends owner (Filter f) h = may_same sends owner (Filter f) h
-  keep_same sends owner (Binding b) h = h
+  keep_same sends owner (Binding b) h = (h.0, (omega (arith, h.1.0, r.bindings), omega (arith, h.1.1, at_same owner)))
 
   down_same : (owner : ModuleId) (to : Target) → GoesDown ms owner to → GoesDown other owner to
   down_same owner Bindings h = tt
@@ -259,18 +263,48 @@ distinct_of net s = by net.phase refl
     by phase.Running e = (at_phase net phase.Running s e).0.distinct
     by phase.Pausing e = (at_phase net phase.Pausing s e).0.distinct
 
+-- as many bindings as the head says
+many_of : (net : Net) (s : IsShaped net) → length net.modules.bindings ≡ length net.head.bindings
+many_of net s = by net.phase refl
+  where
+    are : (x : ModuleState) → net.modules.bindings ≡ replicate (length net.head.bindings) x → length net.modules.bindings ≡ length net.head.bindings
+    are x e = ap length e ∙ length-replicate (length net.head.bindings) x
+
+    by : (p : Phase) → net.phase ≡ p → length net.modules.bindings ≡ length net.head.bindings
+    by phase.Halted e = are state.Unbound (at_phase net phase.Halted s e).0.bindings
+    by phase.Paused e = are state.Paused (at_phase net phase.Paused s e).1.0.bindings
+    by phase.Restarting e = are _ (at_phase net phase.Restarting s e).1.states.bindings
+    by phase.Running e = are _ (at_phase net phase.Running s e).1.0.states.bindings
+    by phase.Pausing e = are _ (at_phase net phase.Pausing s e).1.states.bindings
+
+-- each list stands right, and its owner is a module of the configuration
+abbrev pub IsSound : Net → LiveList → Type 0
+IsSound net x = IsRight net.modules x × IsThere net x.owner
+
 abbrev pub AreRight : Net → Type 0
-AreRight net = All (λ k x. IsRight net.modules x) net
+AreRight net = All (λ k x. IsSound net x) net
 
 none_right : (net : Net) → lists net.things ≡ [] → AreRight net
 none_right net e k x f = clash (sym (ap (list_of k) e) ∙ f)
   where
-    clash : None ≡ Some x → IsRight net.modules x
+    clash : None ≡ Some x → IsSound net x
     clash h = absurd (cc)
 
 changed_right : (net next : Net) → lists next.things ≡ lists net.things → (IsRouted net.modules next.modules ⊎ (lists net.things ≡ [])) → AreRight net → AreRight next
-changed_right net next e (inl r) h k x f = fits_same net.modules next.modules r (is_down x.direction) x.owner x.last x.stand (h k x (ap (list_of k) (sym e) ∙ f))
+changed_right net next e (inl r) h k x f =
+    let was : IsSound net x = h k x (ap (list_of k) (sym e) ∙ f) in
+    (fits_same net.modules next.modules r (is_down x.direction) x.owner x.last x.stand was.0, there_same x.owner was.1)
+  where
+    there_same : (m : ModuleId) → IsThere net m → IsThere next m
+    there_same Miniport t = tt
+    there_same (Filter f) t = ap (is_in f) r.order ∙ t
+    there_same (Binding b) t = omega (arith, t, r.bindings)
 changed_right net next e (inr none) h k x f = none_right next (e ∙ none) k x f
+
+there_in : (net next : Net) (m : ModuleId) → next.modules ≡ net.modules → IsThere net m → IsThere next m
+there_in net next Miniport e t = tt
+there_in net next (Filter f) e t = ap (λ (ms : Modules). is_in f ms.order) e ∙ t
+there_in net next (Binding b) e t = omega (arith, t, ap (λ (ms : Modules). length ms.bindings) e)
 
 event_right : (net : Net) (e : Event) (c : Choice) → IsHeld net → Facts net → AreRight (state_after net e (outcome net e c))
 event_right net e c h facts =
@@ -279,8 +313,8 @@ event_right net e c h facts =
       | true ↦ λ p.
           let same : IsSame net next = plain_same net e c p in
           let g : Going net facts next = plain_leaves net facts e c p in
-          λ k x f. subst (λ ms. IsRight ms x) (sym same.modules) (g.all k x f).right
-      | false ↦ λ p. changed_right net next (ap lists (event_kept net h.shape e c p).things) (event_keeps net e c h p) facts.right
+          λ k x f. let was = g.all k x f in (subst (λ ms. IsRight ms x) (sym same.modules) was.right, there_in net next x.owner same.modules was.same.there)
+      | false ↦ λ p. changed_right net next (ap lists (event_kept net h.shape e c p).things) (event_keeps net e c h p) (λ k x f. (facts.right k x f, facts.there k x f))
     ] in
     cases (is_plain e) refl
 
@@ -306,7 +340,9 @@ module _ (head : StackHead) (bound : 1 ≤ length head.bindings) where
         distinct = distinct_of net held.shape;
         apart = held.clear.apart;
         below = below;
-        right = right;
+        right = λ k x f. (right k x f).0;
+        there = λ k x f. (right k x f).1;
+        many = many_of net held.shape;
         originals = λ c l o f m g. absurd (clash c.list.0 c e f);
         crossed = λ l f t. absurd (clash l.list.0 l e f);
       }
@@ -316,7 +352,9 @@ module _ (head : StackHead) (bound : 1 ≤ length head.bindings) where
         distinct = distinct_of net held.shape;
         apart = held.clear.apart;
         below = below;
-        right = right;
+        right = λ k x f. (right k x f).0;
+        there = λ k x f. (right k x f).1;
+        many = many_of net held.shape;
         originals = λ c l o f m g. let has : HasOriginal net c = Each-found (HasOriginal net) c.list.0 (lists net.things) c listed.originals f in (has o l m g).kept;
         crossed = λ l f t. let p : IsPlaced net l = Each-found (IsPlaced net) l.list.0 (lists net.things) l listed.placed f in (p.crossed t).0;
       }
@@ -362,7 +400,7 @@ module _ (head : StackHead) (bound : 1 ≤ length head.bindings) where
   right_journal turns s = (kept_turns (start head) turns record { before = []; sound = tt; at = refl; right = none_right (start head) refl } s).right
 
 -- a fact of each list that stands right
-pub each_right : (head : StackHead) (turns : List Turn) (P : LiveList → Type 0) → Sound head turns → 1 ≤ length head.bindings → ((l : LiveList) → IsRight (seen head turns).modules l → P l) → Each P (lists (seen head turns).things)
+pub each_right : (head : StackHead) (turns : List Turn) (P : LiveList → Type 0) → Sound head turns → 1 ≤ length head.bindings → ((l : LiveList) → IsSound (seen head turns) l → P l) → Each P (lists (seen head turns).things)
 each_right head turns P s bound f =
     let net : Net = seen head turns in
     Each-implies (λ l. look net l.list.0 ≡ Some l) P (λ l e. f l (right_journal head bound turns s l.list.0 l e)) (lists net.things) (all_found (lists net.things) (held_journal head turns s).clear.apart)
@@ -377,4 +415,4 @@ passed_of ms l (stand.Passed (way.Done status) to) h = (h.1.0, h.1.1.0)
 passed_of ms l (stand.Passed (way.Back status) to) h = tt
 
 pub each_is_passed : EachIsPassed
-each_is_passed head turns s bound = each_right head turns (IsPassed (seen head turns).modules) s bound (λ l h. passed_of (seen head turns).modules l l.stand h)
+each_is_passed head turns s bound = each_right head turns (IsPassed (seen head turns).modules) s bound (λ l h. passed_of (seen head turns).modules l l.stand h.0)

@@ -25,7 +25,7 @@ use Rattle.pause_laws.proofs.Turns.{held_journal}
 use Rattle.place_laws.proofs.Spots.{in_drop, in_take, in_reverse, drop_low, take_high}
 use Rattle.outstanding_laws.specs.Outstanding.{passes_sends, passes_receives, nearest_below, way_position, IsTold, EachIsTold}
 use Rattle.outstanding_laws.proofs.Rows.{Fits, IsRight}
-use Rattle.outstanding_laws.proofs.Routes.{and_first, and_second}
+use Rattle.outstanding_laws.proofs.Routes.{and_first, and_second, passer_low}
 use Rattle.outstanding_laws.proofs.Turns.{distinct_of, each_right}
 
 -- the filters of a list are counted one by one in the order, from a number on
@@ -212,11 +212,6 @@ module _ (ms : Modules) (d : IsDistinct ms.order) where
       found_or (λ t. position_of_target ms.order t < i) (has_receive ms) (reverse (take (i - 1) ms.order)) Bindings
       (λ f h x. omega (arith, take_high f (i - 1) ms.order (sym (in_reverse f (take (i - 1) ms.order)) ∙ x))) (omega (arith, a))
 
-  passer_low : (m : ModuleId) → passes_receives ms m ≡ true → 1 ≤ position ms.order m
-  passer_low Miniport h = omega arith
-  passer_low (Filter f) h = omega arith
-  passer_low (Binding b) h = absurd (cc)
-
   told_at : (l : LiveList) (s : Stand) → Fits ms (is_down l.direction) l.owner l.last s → is_passed s ≡ true → position_in ms.order l.last s ≡ way_position ms s
   told_at l stand.Unplaced h p = absurd (cc)
   told_at l (stand.Kept m) h p = absurd (cc)
@@ -225,7 +220,7 @@ module _ (ms : Modules) (d : IsDistinct ms.order) where
   told_at l (stand.Passed way.Up to) h p =
       let i : ℕ = position ms.order l.last in
       subst (λ t. Some i ≡ Some (nearest_below ms (has_receive ms) (position_of_target ms.order t))) (sym h.1.1.0)
-      (ap (λ n. Some n) (nearest_is ms d (has_receive ms) l.last (position_of_target ms.order (next_up ms i)) (receives_pair ms l.last h.1.0) (up_above i (passer_low l.last h.1.0)) (up_nearest ms i d)))
+      (ap (λ n. Some n) (nearest_is ms d (has_receive ms) l.last (position_of_target ms.order (next_up ms i)) (receives_pair ms l.last h.1.0) (up_above i (passer_low ms l.last h.1.0)) (up_nearest ms i d)))
   told_at l (stand.Passed (way.Done status) to) h p =
       let i : ℕ = position ms.order l.last in
       subst (λ t. Some i ≡ Some (nearest_below ms (has_send ms) (position_of_target ms.order t))) (sym h.1.1.0)
@@ -234,4 +229,4 @@ module _ (ms : Modules) (d : IsDistinct ms.order) where
 pub each_is_told : EachIsTold
 each_is_told head turns s bound =
     let net : Net = seen head turns in
-    each_right head turns (IsTold net.modules) s bound (λ l h p. told_at net.modules (distinct_of net (held_journal head turns s).shape) l l.stand h p)
+    each_right head turns (IsTold net.modules) s bound (λ l h p. told_at net.modules (distinct_of net (held_journal head turns s).shape) l l.stand h.0 p)
