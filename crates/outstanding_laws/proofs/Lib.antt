@@ -4,3 +4,5 @@ pub mod Moves
 pub mod Events
 pub mod Turns
 pub mod Ways
+pub mod Keepers
+pub mod Counts

@@ -212,7 +212,7 @@ module _ (ms : Modules) (d : IsDistinct ms.order) where
       found_or (λ t. position_of_target ms.order t < i) (has_receive ms) (reverse (take (i - 1) ms.order)) Bindings
       (λ f h x. omega (arith, take_high f (i - 1) ms.order (sym (in_reverse f (take (i - 1) ms.order)) ∙ x))) (omega (arith, a))
 
-  told_at : (l : LiveList) (s : Stand) → Fits ms (is_down l.direction) l.owner l.last s → is_passed s ≡ true → position_in ms.order l.last s ≡ way_position ms s
+  pub told_at : (l : LiveList) (s : Stand) → Fits ms (is_down l.direction) l.owner l.last s → is_passed s ≡ true → position_in ms.order l.last s ≡ way_position ms s
   told_at l stand.Unplaced h p = absurd (cc)
   told_at l (stand.Kept m) h p = absurd (cc)
   told_at l (stand.Passed way.Down to) h p = refl

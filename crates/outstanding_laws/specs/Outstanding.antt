@@ -1,6 +1,6 @@
 -- How many lists a position has outstanding, by what is in hand: the pools, the kept lists and the queue of what is
 -- on its way. Of a list on its way up or done the queue doesn't tell who had it last; its target does.
-use Rattle.std.specs.Prelude.{◌≡◌, ◌≤◌, ℕ, ◌&&◌, Bool, true, false, List, Option, Some, None, length}
+use Rattle.std.specs.Prelude.{◌≡◌, ◌≢◌, ◌≤◌, ℕ, ◌+◌, ◌==◌, ◌&&◌, not, Bool, true, false, List, [], Option, Some, None, length, count_by, sum_by, slice_index_or}
 use Rattle.ndis_base.specs.declared.ModuleId.{ModuleId}
 use Rattle.ndis_base.specs.declared.ModuleId.TheVariants.{Miniport, Filter, Binding}
 use Rattle.journal_types.specs.declared.StackHead.{StackHead}
@@ -9,13 +9,19 @@ use Rattle.journal_types.specs.declared.PassWay.TheVariants as way
 use Rattle.journal_types.specs.declared.Target.TheVariants.{Module}
 use Rattle.stack_rules.specs.declared.LiveList.{LiveList}
 use Rattle.stack_rules.specs.declared.Stand.{Stand}
+use Rattle.stack_rules.specs.declared.Thing.{Thing}
+use Rattle.stack_rules.specs.declared.Thing.TheVariants as thing
+use Rattle.ndis_base.specs.declared.Phase.TheVariants as phase
 use Rattle.stack_rules.specs.declared.Stand.TheVariants as stand
 use Rattle.stack_rules.specs.Net.{Net, Modules, lists, seen}
-use Rattle.stack_rules.specs.Places.{position, position_of_target, position_in, is_passed}
+use Rattle.stack_rules.specs.Places.{position, position_of_target, position_in, is_passed, outstanding, owned, kept_lists, agenda}
 use Rattle.stack_rules.specs.Targets.{has_send, has_receive, first_filter, filters_below, next_up, next_done}
 use Rattle.stack_rules.specs.Rewires.{is_in}
+use Rattle.stack_rules.specs.Pauses.{floors, first_unpaused}
+use Rattle.stack_rules.specs.Tests.{same_number}
 use Rattle.stack_rules.specs.Sound.{Sound}
 use Rattle.rule_basics.specs.Live.{Each}
+use Rattle.state_laws.specs.Laws.{IsThere}
 
 -- the module passes sends: it is the miniport, or a filter of the order with the send pair
 abbrev pub passes_sends : Modules → ModuleId → Bool
@@ -62,3 +68,38 @@ IsTold ms l = is_passed l.stand ≡ true → position_in ms.order l.last l.stand
 -- After each sound journal of a stack that has a binding.
 abbrev pub EachIsTold : Type 0
 EachIsTold = (head : StackHead) (turns : List Turn) → Sound head turns → 1 ≤ length head.bindings → Each (IsTold (seen head turns).modules) (lists (seen head turns).things)
+
+-- the owner is a module of the configuration, and no module at the owner's position keeps the list
+pub record IsApart (net : Net) (l : LiveList) : Type 0 where
+  pub there : IsThere net l.owner
+  pub apart : (m : ModuleId) → l.stand ≡ stand.Kept m → position net.modules.order m ≢ position net.modules.order l.owner
+
+-- After each sound journal of a stack that has a binding.
+abbrev pub EachIsApart : Type 0
+EachIsApart = (head : StackHead) (turns : List Turn) → Sound head turns → 1 ≤ length head.bindings → Each (IsApart (seen head turns)) (lists (seen head turns).things)
+
+-- the modules of a position: all bindings, a filter, or the miniport
+abbrev pub modules_at : Net → ℕ → List ModuleId
+modules_at net i = slice_index_or (floors net.modules) i []
+
+-- how many live lists a module owns, and how many it keeps
+abbrev pub in_module : Net → ModuleId → ℕ
+in_module net m = owned net m + length (kept_lists net m)
+
+-- a list on its way counts at a position that it is at and its owner isn't, by its way and its target alone
+abbrev pub counts_away : Modules → ℕ → ModuleId → Stand → Bool
+counts_away ms i owner at = not (position ms.order owner == i) && same_number (way_position ms at) (Some i)
+
+abbrev pub is_counted_away : Modules → ℕ → Thing → Bool
+is_counted_away ms i (thing.List l) = counts_away ms i l.owner l.stand
+is_counted_away ms i (thing.Status s) = false
+is_counted_away ms i (thing.Answer a) = false
+
+-- what a position has in hand: what its modules own and keep, and what else on its way counts there
+abbrev pub in_hand_at : Net → ℕ → ℕ
+in_hand_at net i = sum_by (in_module net) (modules_at net i) + count_by (is_counted_away net.modules i) (agenda net)
+
+-- While a stack that has a binding pauses, after each sound journal, the first position that isn't Paused has
+-- outstanding what it has in hand.
+abbrev pub EachIsInHand : Type 0
+EachIsInHand = (head : StackHead) (turns : List Turn) → Sound head turns → 1 ≤ length head.bindings → (seen head turns).phase ≡ phase.Pausing → outstanding (seen head turns) (first_unpaused (seen head turns)) ≡ in_hand_at (seen head turns) (first_unpaused (seen head turns))
