@@ -1,14 +1,12 @@
 -- What the first position that isn't Paused has outstanding is what it has in hand.
 use Rattle.std.proofs.Common.{◌≡◌, ℕ, zero, suc, ◌+◌, ◌<◌, ◌≤◌, ◌==◌, ◌&&◌, ◌||◌, not, nat_lt, nat_le, Bool, true, false, cond, List, [], ◌∷◌, ◌++◌, Option, Some, None, length, map, filter, count_by, sum_by, slice_index_or, refl, arith, ap, sym, subst, ◌∙◌}
 use Rattle.std.proofs.lemmas.Bool.Decides.{nat_tests}
-use Rattle.std.proofs.lemmas.List.Sums.{sum_by-cons, sum_by-append}
+use Rattle.std.proofs.lemmas.List.Sums.{sum_by-cons}
 use Rattle.ndis_base.specs.declared.ModuleId.{ModuleId}
 use Rattle.ndis_base.specs.declared.ModuleId.TheVariants.{Miniport, Filter, Binding}
 use Rattle.ndis_base.specs.declared.ModuleState.{ModuleState}
 use Rattle.ndis_base.specs.declared.Phase.TheVariants as phase
 use Rattle.journal_types.specs.declared.PassWay.TheVariants as way
-use Rattle.journal_types.specs.declared.StackHead.{StackHead}
-use Rattle.journal_types.specs.declared.Turn.{Turn}
 use Rattle.stack_rules.specs.declared.LiveList.{LiveList}
 use Rattle.stack_rules.specs.declared.Stand.{Stand}
 use Rattle.stack_rules.specs.declared.Stand.TheVariants as stand
@@ -16,15 +14,14 @@ use Rattle.stack_rules.specs.declared.Thing.{Thing}
 use Rattle.stack_rules.specs.declared.Thing.TheVariants as thing
 use Rattle.stack_rules.specs.Tests.{is_down, same_module, same_number}
 use Rattle.stack_rules.specs.Net.{Net, Modules, seen, lists}
-use Rattle.stack_rules.specs.Places.{position, above, position_of_target, position_in, is_at_most, is_counted_at, outstanding, is_kept_by, is_passed, is_away, kept_lists, agenda, owned}
+use Rattle.stack_rules.specs.Places.{position, above, position_of_target, position_in, is_at_most, is_counted_at, outstanding, is_kept_by, is_passed, is_away, owned}
 use Rattle.stack_rules.specs.Rewires.{is_in}
-use Rattle.stack_rules.specs.Pauses.{binding_ids, one, floors, first_unpaused}
-use Rattle.stack_rules.specs.Sound.{Sound}
+use Rattle.stack_rules.specs.Pauses.{binding_ids, one, first_unpaused}
 use Rattle.rule_basics.specs.Live.{Each}
 use Rattle.rule_basics.proofs.Each.{Each-implies, Each-found}
 use Rattle.rule_basics.proofs.Counts.{one_if, count_by-cons}
 use Rattle.state_laws.specs.Laws.{IsThere}
-use Rattle.state_laws.specs.Shape.{IsDistinct, IsShaped}
+use Rattle.state_laws.specs.Shape.{IsDistinct}
 use Rattle.state_laws.proofs.Floors.{first_unpaused_is}
 use Rattle.state_laws.proofs.Events.{at_phase}
 use Rattle.pause_laws.specs.Clear.{StandsFrom, IsClear, IsHeld}
@@ -32,7 +29,7 @@ use Rattle.pause_laws.proofs.Turns.{held_journal}
 use Rattle.place_laws.proofs.Looks.{look}
 use Rattle.place_laws.proofs.Keepers.{all_found}
 use Rattle.outstanding_laws.specs.Outstanding.{way_position, modules_at, in_module, counts_away, is_counted_away, in_hand_at, EachIsInHand}
-use Rattle.outstanding_laws.proofs.Rows.{Fits, IsRight}
+use Rattle.outstanding_laws.proofs.Rows.{Fits}
 use Rattle.outstanding_laws.proofs.Keepers.{apart_of, keep_there, kept_fits}
 use Rattle.outstanding_laws.proofs.Turns.{IsSound, right_journal, distinct_of}
 use Rattle.outstanding_laws.proofs.Ways.{told_at}

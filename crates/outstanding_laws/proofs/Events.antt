@@ -1,5 +1,5 @@
 -- Each event that changes no state of a module leaves the lists passed as they should be.
-use Rattle.std.proofs.Common.{◌≡◌, ℕ, ◌+◌, ◌==◌, ◌||◌, ◌&&◌, ◌⊎◌, inl, inr, not, Bool, true, false, cond, List, [], ◌∷◌, ◌++◌, Option, Some, None, find, filter, map, reverse, refl, arith, ap, sym, subst, ◌∙◌}
+use Rattle.std.proofs.Common.{◌≡◌, ℕ, ◌+◌, ◌==◌, ◌||◌, ◌&&◌, inl, inr, Bool, true, false, cond, List, [], ◌∷◌, ◌++◌, Option, Some, None, find, filter, map, reverse, refl, arith, ap, sym, subst, ◌∙◌}
 use Rattle.std.specs.List.{list_any, flat_map}
 use Rattle.std.proofs.lemmas.Bool.Decides.{nat_tests}
 use Rattle.ndis_base.specs.declared.ModuleId.{ModuleId}
@@ -39,7 +39,7 @@ use Rattle.stack_rules.specs.Heads.{kind_of_binding, binding_numbers}
 use Rattle.stack_rules.specs.Messages.{is_for}
 use Rattle.stack_rules.specs.Net.{Net, after, after_rows, attached, lists, list_of}
 use Rattle.stack_rules.specs.Places.{position, is_crossed, is_full, kept_lists, ready_lists, is_kept_by, agenda_first, state_of}
-use Rattle.stack_rules.specs.Targets.{has_receive, next_status, onward, homeward}
+use Rattle.stack_rules.specs.Targets.{has_receive, next_status, onward}
 use Rattle.stack_rules.specs.Outcome.{Outcome, list_no, config_no, cross_no, oid_no, status_no, max_frame}
 use Rattle.stack_rules.specs.Deliveries.{delivered, takers}
 use Rattle.stack_rules.specs.Receives.{give_back_of, lent_home, lent_back, copied, lent_handled, lent_at, lent_delivery, lent_up, lent_rows}
@@ -68,9 +68,9 @@ use Rattle.place_laws.proofs.Good.{one_found}
 use Rattle.place_laws.proofs.Looks.{look}
 use Rattle.place_laws.proofs.Keepers.{all_found, IsKeptLive, kept_live}
 use Rattle.outstanding_laws.specs.Outstanding.{passes_receives}
-use Rattle.outstanding_laws.proofs.Rows.{May, Fits, IsLoose, has_back, has_known, give_loose, still_loose, home_good, home_held, issue_good, look_new, skip_good, kin_pass}
+use Rattle.outstanding_laws.proofs.Rows.{Fits, IsLoose, has_back, has_known, give_loose, still_loose, home_good, home_held, issue_good, look_new, skip_good, kin_pass}
 use Rattle.outstanding_laws.proofs.Routes.{and_first, passer_low, up_to, on_from, issue_on}
-use Rattle.outstanding_laws.proofs.Moves.{Facts, not_full, may_or_up, Going, Holds, Kin, Leaves, MayHave, begins, kin_begins, down_leaves, miniport_leaves, indicated_goes, sent_goes, IsKeptBy, kept_by, kept_home, kept_back, transmitted_leaves, homeward_leaves, done_may, delivered_goes, go_up_back, delivery_leaves, up_leaves}
+use Rattle.outstanding_laws.proofs.Moves.{Facts, not_full, Going, Kin, Leaves, MayHave, begins, kin_begins, down_leaves, miniport_leaves, indicated_goes, sent_goes, IsKeptBy, kept_by, kept_home, kept_back, transmitted_leaves, homeward_leaves, done_may, delivered_goes, go_up_back, delivery_leaves, up_leaves}
 
 -- rows that move no list
 abbrev AreSkipped : List Row → Type 0

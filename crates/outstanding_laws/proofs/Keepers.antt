@@ -1,9 +1,7 @@
 -- A list is kept past its owner: a send below it, a receive above it.
-use Rattle.std.proofs.Common.{◌≡◌, ℕ, ◌+◌, ◌<◌, ◌≤◌, ◌⊎◌, inl, inr, Bool, true, false, List, refl, arith, ap, sym, subst, ◌∙◌}
+use Rattle.std.proofs.Common.{◌≡◌, Bool, true, false, refl, arith, subst}
 use Rattle.ndis_base.specs.declared.ModuleId.{ModuleId}
 use Rattle.ndis_base.specs.declared.ModuleId.TheVariants.{Miniport, Filter, Binding}
-use Rattle.journal_types.specs.declared.StackHead.{StackHead}
-use Rattle.journal_types.specs.declared.Turn.{Turn}
 use Rattle.stack_rules.specs.declared.LiveList.{LiveList}
 use Rattle.stack_rules.specs.declared.Stand.TheVariants as stand
 use Rattle.stack_rules.specs.Tests.{is_down}

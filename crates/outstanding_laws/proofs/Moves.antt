@@ -47,9 +47,8 @@ use Rattle.state_laws.proofs.Takes.{attached-is}
 use Rattle.place_laws.proofs.Good.{one_found}
 use Rattle.place_laws.proofs.Keepers.{all_found}
 use Rattle.place_laws.proofs.Looks.{look, issued, look_keep}
-use Rattle.outstanding_laws.specs.Outstanding.{passes_sends, passes_receives}
-use Rattle.outstanding_laws.proofs.Rows.{May, MayKeep, Fits, IsRight, All, IsKin, Goes, Has, has_give, has_known, keep_held, keep_good, issue_good, issue_held, look_new, home_good, skip_good, kin_pass, kin_home, kin_issue, starts, kin_starts}
-use Rattle.outstanding_laws.proofs.Routes.{and_first, IsOf, done_to, go_home, go_back, go_on, good_as, held_as, home_from, home_up, back_from, back_again, back_up, filter_most, on_from, issue_on}
+use Rattle.outstanding_laws.proofs.Rows.{May, MayKeep, Fits, IsRight, All, IsKin, Goes, Has, has_give, has_known, keep_held, keep_good, issue_held, look_new, home_good, skip_good, kin_pass, kin_home, kin_issue, starts, kin_starts}
+use Rattle.outstanding_laws.proofs.Routes.{and_first, done_to, go_back, go_on, good_as, held_as, home_from, home_up, back_from, back_again, back_up, filter_most, on_from, issue_on}
 
 -- what is known where a turn begins
 pub record Facts (net : Net) : Type 0 where

@@ -1,5 +1,5 @@
 -- Lists go on and homewards from the module that had them last.
-use Rattle.std.proofs.Common.{◌≡◌, ℕ, ◌+◌, ◌-◌, ◌<◌, ◌≤◌, ◌&&◌, Bool, true, false, List, [], ◌∷◌, Option, Some, None, length, take, drop, reverse, refl, arith, ap, sym, subst, ◌∙◌}
+use Rattle.std.proofs.Common.{◌≡◌, ℕ, ◌+◌, ◌-◌, ◌<◌, ◌≤◌, ◌&&◌, Bool, true, false, List, [], ◌∷◌, Option, Some, length, take, drop, reverse, refl, arith, ap, sym, subst, ◌∙◌}
 use Rattle.ndis_base.specs.declared.ModuleId.{ModuleId}
 use Rattle.ndis_base.specs.declared.ModuleId.TheVariants.{Miniport, Filter, Binding}
 use Rattle.ndis_base.specs.declared.ListNo.{ListNo}
@@ -9,14 +9,13 @@ use Rattle.ndis_base.specs.declared.Direction.{Direction}
 use Rattle.ndis_base.specs.declared.Direction.TheVariants as direction
 use Rattle.ndis_base.specs.declared.Origin.{Origin}
 use Rattle.journal_types.specs.declared.PassWay.TheVariants as way
-use Rattle.journal_types.specs.declared.Target.{Target}
 use Rattle.journal_types.specs.declared.Target.TheVariants.{Module, Bindings}
 use Rattle.journal_types.specs.declared.Row.TheVariants as row
 use Rattle.stack_rules.specs.declared.LiveList.{LiveList}
 use Rattle.stack_rules.specs.declared.Stand.TheVariants as stand
 use Rattle.stack_rules.specs.Tests.{is_down}
 use Rattle.stack_rules.specs.Net.{Net, Modules, after, after_rows}
-use Rattle.stack_rules.specs.Places.{position, above}
+use Rattle.stack_rules.specs.Places.{position}
 use Rattle.stack_rules.specs.Targets.{has_send, has_receive, next_down, next_up, next_done, onward, homeward, homeward_by, turned_back}
 use Rattle.stack_rules.specs.Rewires.{is_in}
 use Rattle.state_laws.specs.Shape.{IsDistinct}
@@ -24,7 +23,7 @@ use Rattle.state_laws.specs.Laws.{IsThere}
 use Rattle.pause_laws.proofs.Places.{found_or}
 use Rattle.place_laws.proofs.Spots.{in_drop, in_take, in_reverse, in_above, take_high, drop_low, drop_take_low}
 use Rattle.place_laws.proofs.Good.{one_found}
-use Rattle.place_laws.proofs.Looks.{look, issued, look_issue, not_live}
+use Rattle.place_laws.proofs.Looks.{look, issued}
 use Rattle.outstanding_laws.specs.Outstanding.{passes_sends, passes_receives}
 use Rattle.outstanding_laws.proofs.Rows.{May, GoesDown, Fits, All, IsSame, Goes, Has, has_again, has_back, has_known, pass_held, back_good, issue_good, look_new}
 

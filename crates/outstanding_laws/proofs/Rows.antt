@@ -1,5 +1,5 @@
 -- What each row of a turn leaves of how the live lists were passed: by whom, and to which target.
-use Rattle.std.proofs.Common.{◌≡◌, ℕ, ◌+◌, ◌<◌, ◌≤◌, ◌==◌, Bool, true, false, List, [], ◌∷◌, Option, Some, None, option_map, length, refl, arith, ap, sym, subst, ◌∙◌}
+use Rattle.std.proofs.Common.{◌≡◌, ℕ, ◌+◌, ◌<◌, ◌≤◌, ◌==◌, Bool, true, false, List, Option, Some, None, option_map, length, refl, arith, ap, sym, subst, ◌∙◌}
 use Rattle.std.proofs.lemmas.Bool.Decides.{nat_tests}
 use Rattle.ndis_base.specs.declared.ModuleId.{ModuleId}
 use Rattle.ndis_base.specs.declared.ModuleId.TheVariants.{Miniport, Filter, Binding}
@@ -25,7 +25,7 @@ use Rattle.stack_rules.specs.Places.{position}
 use Rattle.stack_rules.specs.Targets.{next_up, next_done}
 use Rattle.rule_basics.specs.Live.{is_live}
 use Rattle.rule_basics.proofs.Numbered.{lists-things_done, lists-status, lists-without_status}
-use Rattle.place_laws.proofs.Good.{by_number, some_same, one_found, none_found, changed_is}
+use Rattle.place_laws.proofs.Good.{by_number, some_same, one_found, changed_is}
 use Rattle.place_laws.proofs.Looks.{look, IsUpdate, passing, keeping, issued, look_pass, look_keep, look_give, look_back, look_out, look_home, look_issue, not_live}
 use Rattle.state_laws.specs.Laws.{IsThere}
 use Rattle.pause_laws.proofs.Hands.{is_skipped}

@@ -2,10 +2,8 @@
 use Rattle.std.proofs.Common.{◌≡◌, ℕ, ◌+◌, ◌-◌, ◌<◌, ◌≤◌, ◌==◌, ◌&&◌, ◌||◌, ◌⊎◌, inl, inr, not, nat_lt, slice_index_or, filter, option_map, Bool, true, false, cond, List, [], ◌∷◌, ◌++◌, Option, Some, None, length, replicate, map, reverse, take, drop, refl, arith, ap, sym, subst, ◌∙◌}
 use Rattle.ndis_base.specs.declared.ModuleId.{ModuleId}
 use Rattle.ndis_base.specs.declared.ModuleId.TheVariants.{Miniport, Filter, Binding}
-use Rattle.ndis_base.specs.declared.ListNo.{ListNo}
 use Rattle.ndis_base.specs.declared.ModuleState.{ModuleState}
 use Rattle.ndis_base.specs.declared.ModuleState.TheVariants as state
-use Rattle.ndis_base.specs.declared.Origin.TheVariants as origin
 use Rattle.ndis_base.specs.declared.Handlers.{Handlers}
 use Rattle.ndis_base.specs.declared.Phase.{Phase}
 use Rattle.ndis_base.specs.declared.Phase.TheVariants as phase
@@ -26,11 +24,11 @@ use Rattle.stack_rules.specs.declared.Stand.{Stand}
 use Rattle.stack_rules.specs.declared.Stand.TheVariants as stand
 use Rattle.stack_rules.specs.Tests.{is_down, phase_is_halted, phase_is_paused, phase_is_running, phase_is_pausing, phase_is_restarting}
 use Rattle.stack_rules.specs.Net.{Net, Modules, start, after, after_rows, after_turn, after_turns, seen, lists, list_of, attached, handlers_of, with_state, is_detached, modules_after}
-use Rattle.stack_rules.specs.Places.{position, outstanding, is_crossed}
+use Rattle.stack_rules.specs.Places.{position, outstanding}
 use Rattle.stack_rules.specs.Targets.{has_send, has_receive, first_filter, next_up, next_done}
 use Rattle.stack_rules.specs.Rewires.{is_in}
 use Rattle.stack_rules.specs.Outcome.{Outcome}
-use Rattle.stack_rules.specs.Pauses.{state_row, state_rows, binding_ids, floors, first_unpaused, paused_rows, pause_at, restarting, is_top, restart_rows, restart_at, running_floors, halt_items}
+use Rattle.stack_rules.specs.Pauses.{state_rows, binding_ids, floors, first_unpaused, paused_rows, restarting, is_top, restart_rows, running_floors}
 use Rattle.stack_rules.specs.Sound.{Next, outcome, SoundFrom, Sound}
 use Rattle.rule_basics.specs.Live.{Each}
 use Rattle.rule_basics.proofs.Each.{Each-found, Each-implies}
@@ -41,7 +39,6 @@ use Rattle.state_laws.specs.Shape.{IsDistinct, IsShaped}
 use Rattle.state_laws.proofs.Rows.{by_test, IsSame}
 use Rattle.state_laws.proofs.Quiet.{is_plain}
 use Rattle.state_laws.proofs.Takes.{attached-with_state}
-use Rattle.state_laws.proofs.Changes.{IsChanged}
 use Rattle.state_laws.proofs.Events.{state_after, at_phase, event_kept, plain_same, turn_is, when_halted, when_paused}
 use Rattle.pause_laws.specs.Clear.{IsHeld}
 use Rattle.pause_laws.proofs.Fronts.{none_live}

@@ -1,5 +1,5 @@
 -- The position of a list on its way follows from its way and its target.
-use Rattle.std.proofs.Common.{◌≡◌, ℕ, zero, suc, ◌+◌, ◌-◌, ◌<◌, ◌≤◌, ◌==◌, ◌&&◌, ◌||◌, nat_lt, Bool, true, false, cond, List, [], ◌∷◌, ◌++◌, Option, Some, None, length, take, drop, reverse, refl, arith, ap, sym, subst, ◌∙◌}
+use Rattle.std.proofs.Common.{◌≡◌, ℕ, zero, suc, ◌+◌, ◌-◌, ◌<◌, ◌≤◌, ◌==◌, ◌||◌, nat_lt, Bool, true, false, cond, List, [], ◌∷◌, ◌++◌, Some, length, take, drop, reverse, refl, arith, ap, sym, subst, ◌∙◌}
 use Rattle.std.proofs.lemmas.Bool.Decides.{nat_tests}
 use Rattle.std.proofs.lemmas.List.{reverse-append}
 use Rattle.ndis_base.specs.declared.ModuleId.{ModuleId}
@@ -7,8 +7,6 @@ use Rattle.ndis_base.specs.declared.ModuleId.TheVariants.{Miniport, Filter, Bind
 use Rattle.journal_types.specs.declared.PassWay.TheVariants as way
 use Rattle.journal_types.specs.declared.Target.{Target}
 use Rattle.journal_types.specs.declared.Target.TheVariants.{Module, Bindings}
-use Rattle.journal_types.specs.declared.StackHead.{StackHead}
-use Rattle.journal_types.specs.declared.Turn.{Turn}
 use Rattle.stack_rules.specs.declared.LiveList.{LiveList}
 use Rattle.stack_rules.specs.declared.Stand.{Stand}
 use Rattle.stack_rules.specs.declared.Stand.TheVariants as stand
@@ -17,14 +15,13 @@ use Rattle.stack_rules.specs.Net.{Net, Modules, seen}
 use Rattle.stack_rules.specs.Places.{position, above, position_of_target, position_in, is_passed}
 use Rattle.stack_rules.specs.Targets.{has_send, has_receive, first_filter, next_up, next_done}
 use Rattle.stack_rules.specs.Rewires.{is_in}
-use Rattle.stack_rules.specs.Sound.{Sound}
 use Rattle.state_laws.specs.Shape.{IsDistinct}
 use Rattle.state_laws.proofs.Tops.{position_most}
 use Rattle.pause_laws.proofs.Places.{found_or, up_nearest, done_low}
 use Rattle.pause_laws.proofs.Turns.{held_journal}
-use Rattle.place_laws.proofs.Spots.{in_drop, in_take, in_reverse, drop_low, take_high}
+use Rattle.place_laws.proofs.Spots.{in_drop, in_reverse, drop_low, take_high}
 use Rattle.outstanding_laws.specs.Outstanding.{passes_sends, passes_receives, nearest_below, way_position, IsTold, EachIsTold}
-use Rattle.outstanding_laws.proofs.Rows.{Fits, IsRight}
+use Rattle.outstanding_laws.proofs.Rows.{Fits}
 use Rattle.outstanding_laws.proofs.Routes.{and_first, and_second, passer_low}
 use Rattle.outstanding_laws.proofs.Turns.{distinct_of, each_right}
 
