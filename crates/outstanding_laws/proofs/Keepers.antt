@@ -10,7 +10,7 @@ use Rattle.stack_rules.specs.Places.{position}
 use Rattle.stack_rules.specs.Targets.{has_send, has_receive}
 use Rattle.stack_rules.specs.Rewires.{is_in}
 use Rattle.state_laws.specs.Laws.{IsThere}
-use Rattle.outstanding_laws.specs.Outstanding.{IsApart, EachIsApart}
+use Rattle.outstanding_laws.specs.Outstanding.{IsKeptApart, EachIsKeptApart}
 use Rattle.outstanding_laws.proofs.Rows.{May, MayKeep, Fits, IsRight}
 use Rattle.outstanding_laws.proofs.Routes.{and_first}
 use Rattle.outstanding_laws.proofs.Turns.{IsSound, each_right}
@@ -35,8 +35,8 @@ keep_there net sends owner (Binding b) h = h.1.0
 pub kept_fits : (ms : Modules) (l : LiveList) (m : ModuleId) → l.stand ≡ stand.Kept m → IsRight ms l → MayKeep ms (is_down l.direction) l.owner m
 kept_fits ms l m e h = let k : Fits ms (is_down l.direction) l.owner l.last (stand.Kept m) = subst (Fits ms (is_down l.direction) l.owner l.last) e h in k.1
 
-pub apart_of : (net : Net) (l : LiveList) → IsSound net l → IsApart net l
+pub apart_of : (net : Net) (l : LiveList) → IsSound net l → IsKeptApart net l
 apart_of net l h = record { there = h.1; apart = λ m e p. keep_apart net.modules (is_down l.direction) l.owner m (kept_fits net.modules l m e h.0) p }
 
-pub each_is_apart : EachIsApart
-each_is_apart head turns s bound = each_right head turns (IsApart (seen head turns)) s bound (λ l h. apart_of (seen head turns) l h)
+pub each_is_apart : EachIsKeptApart
+each_is_apart head turns s bound = each_right head turns (IsKeptApart (seen head turns)) s bound (λ l h. apart_of (seen head turns) l h)

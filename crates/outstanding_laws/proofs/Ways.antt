@@ -20,7 +20,7 @@ use Rattle.state_laws.proofs.Tops.{position_most}
 use Rattle.pause_laws.proofs.Places.{found_or, up_nearest, done_low}
 use Rattle.pause_laws.proofs.Turns.{held_journal}
 use Rattle.place_laws.proofs.Spots.{in_drop, in_reverse, drop_low, take_high}
-use Rattle.outstanding_laws.specs.Outstanding.{passes_sends, passes_receives, nearest_below, way_position, IsTold, EachIsTold}
+use Rattle.outstanding_laws.specs.Outstanding.{passes_sends, passes_receives, nearest_below, way_position, IsAtItsWay, EachIsAtItsWay}
 use Rattle.outstanding_laws.proofs.Rows.{Fits}
 use Rattle.outstanding_laws.proofs.Routes.{and_first, and_second, passer_low}
 use Rattle.outstanding_laws.proofs.Turns.{distinct_of, each_right}
@@ -223,7 +223,7 @@ module _ (ms : Modules) (d : IsDistinct ms.order) where
       subst (λ t. Some i ≡ Some (nearest_below ms (has_send ms) (position_of_target ms.order t))) (sym h.1.1.0)
       (ap (λ n. Some n) (nearest_is ms d (has_send ms) l.last (position_of_target ms.order (next_done ms i l.owner)) (sends_pair ms l.last h.1.0) (done_above i l.owner h.1.1.1) (done_close i l.owner)))
 
-pub each_is_told : EachIsTold
+pub each_is_told : EachIsAtItsWay
 each_is_told head turns s bound =
     let net : Net = seen head turns in
-    each_right head turns (IsTold net.modules) s bound (λ l h p. told_at net.modules (distinct_of net (held_journal head turns s).shape) l l.stand h.0 p)
+    each_right head turns (IsAtItsWay net.modules) s bound (λ l h p. told_at net.modules (distinct_of net (held_journal head turns s).shape) l l.stand h.0 p)

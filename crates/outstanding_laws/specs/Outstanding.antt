@@ -3,22 +3,22 @@
 use Rattle.std.specs.Prelude.{◌≡◌, ◌≢◌, ◌≤◌, ℕ, ◌+◌, ◌==◌, ◌&&◌, not, Bool, true, false, List, [], Option, Some, None, length, count_by, sum_by, slice_index_or}
 use Rattle.ndis_base.specs.declared.ModuleId.{ModuleId}
 use Rattle.ndis_base.specs.declared.ModuleId.TheVariants.{Miniport, Filter, Binding}
+use Rattle.ndis_base.specs.declared.Phase.TheVariants as phase
 use Rattle.journal_types.specs.declared.StackHead.{StackHead}
 use Rattle.journal_types.specs.declared.Turn.{Turn}
 use Rattle.journal_types.specs.declared.PassWay.TheVariants as way
 use Rattle.journal_types.specs.declared.Target.TheVariants.{Module}
 use Rattle.stack_rules.specs.declared.LiveList.{LiveList}
 use Rattle.stack_rules.specs.declared.Stand.{Stand}
+use Rattle.stack_rules.specs.declared.Stand.TheVariants as stand
 use Rattle.stack_rules.specs.declared.Thing.{Thing}
 use Rattle.stack_rules.specs.declared.Thing.TheVariants as thing
-use Rattle.ndis_base.specs.declared.Phase.TheVariants as phase
-use Rattle.stack_rules.specs.declared.Stand.TheVariants as stand
+use Rattle.stack_rules.specs.Tests.{same_number}
 use Rattle.stack_rules.specs.Net.{Net, Modules, lists, seen}
 use Rattle.stack_rules.specs.Places.{position, position_of_target, position_in, is_passed, outstanding, owned, kept_lists, agenda}
 use Rattle.stack_rules.specs.Targets.{has_send, has_receive, first_filter, filters_below, next_up, next_done}
 use Rattle.stack_rules.specs.Rewires.{is_in}
 use Rattle.stack_rules.specs.Pauses.{floors, first_unpaused}
-use Rattle.stack_rules.specs.Tests.{same_number}
 use Rattle.stack_rules.specs.Sound.{Sound}
 use Rattle.rule_basics.specs.Live.{Each}
 use Rattle.state_laws.specs.Laws.{IsThere}
@@ -61,22 +61,22 @@ way_position ms (stand.Passed way.Up to) = Some (nearest_below ms (has_receive m
 way_position ms stand.Unplaced = None
 way_position ms (stand.Kept m) = None
 
--- the position of a list that is on its way is told by its way and its target
-abbrev pub IsTold : Modules → LiveList → Type 0
-IsTold ms l = is_passed l.stand ≡ true → position_in ms.order l.last l.stand ≡ way_position ms l.stand
+-- a list on its way is at the position that its way and its target tell
+abbrev pub IsAtItsWay : Modules → LiveList → Type 0
+IsAtItsWay ms l = is_passed l.stand ≡ true → position_in ms.order l.last l.stand ≡ way_position ms l.stand
 
 -- After each sound journal of a stack that has a binding.
-abbrev pub EachIsTold : Type 0
-EachIsTold = (head : StackHead) (turns : List Turn) → Sound head turns → 1 ≤ length head.bindings → Each (IsTold (seen head turns).modules) (lists (seen head turns).things)
+abbrev pub EachIsAtItsWay : Type 0
+EachIsAtItsWay = (head : StackHead) (turns : List Turn) → Sound head turns → 1 ≤ length head.bindings → Each (IsAtItsWay (seen head turns).modules) (lists (seen head turns).things)
 
 -- the owner is a module of the configuration, and no module at the owner's position keeps the list
-pub record IsApart (net : Net) (l : LiveList) : Type 0 where
+pub record IsKeptApart (net : Net) (l : LiveList) : Type 0 where
   pub there : IsThere net l.owner
   pub apart : (m : ModuleId) → l.stand ≡ stand.Kept m → position net.modules.order m ≢ position net.modules.order l.owner
 
 -- After each sound journal of a stack that has a binding.
-abbrev pub EachIsApart : Type 0
-EachIsApart = (head : StackHead) (turns : List Turn) → Sound head turns → 1 ≤ length head.bindings → Each (IsApart (seen head turns)) (lists (seen head turns).things)
+abbrev pub EachIsKeptApart : Type 0
+EachIsKeptApart = (head : StackHead) (turns : List Turn) → Sound head turns → 1 ≤ length head.bindings → Each (IsKeptApart (seen head turns)) (lists (seen head turns).things)
 
 -- the modules of a position: all bindings, a filter, or the miniport
 abbrev pub modules_at : Net → ℕ → List ModuleId

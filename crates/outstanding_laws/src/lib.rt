@@ -2,7 +2,7 @@
 //! function's `ensures` is a law, proved once for all journals.
 #![tactic(auto)]
 
-ghost use Rattle.outstanding_laws.specs.Outstanding.{EachIsPassed, EachIsTold, EachIsApart, EachIsInHand};
+ghost use Rattle.outstanding_laws.specs.Outstanding.{EachIsPassed, EachIsAtItsWay, EachIsKeptApart, EachIsInHand};
 
 /// A list on its way up or done was last with the miniport or a filter of the order that has the pair, and goes to
 /// the next target from there.
@@ -12,12 +12,12 @@ pub fn lists_are_passed_on()
 
 /// Where a list on its way is follows from its way and its target alone: no one needs to know who had it last.
 pub fn positions_are_told()
-    ensures { EachIsTold }
+    ensures { EachIsAtItsWay }
 {}
 
 /// Each list's owner is a module of the configuration, and no module at the owner's position keeps the list.
 pub fn keepers_are_apart()
-    ensures { EachIsApart }
+    ensures { EachIsKeptApart }
 {}
 
 /// While a stack pauses, what the first position that isn't Paused has outstanding is the sum of what its modules own
