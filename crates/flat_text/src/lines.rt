@@ -73,7 +73,8 @@ fn push_end(page: &mut Page, journal: &FlatJournal) -> Result<(), OutOfMemory>
     ensures { OnOk result (page.new ≡ page.old ++ end_line journal.now.head journal.now.turns) }
 {
     page.text("end")?;
-    push_counted(page, " stack ", u64::from(journal.head().stack))?;
+    page.word("stack")?;
+    page.number(u64::from(journal.head().stack))?;
     push_counts(page, journal)?;
     page.text("\n")
 }
