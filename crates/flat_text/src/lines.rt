@@ -30,7 +30,7 @@ fn push_turn_words(
     page.number(number as u64)?;
     push_who(page, turn.who)?;
     push_event(page, journal, turn.event)?;
-    page.word("=")?;
+    page.text(" =")?;
     push_reply(page, journal, turn.reply)
 }
 
@@ -61,11 +61,11 @@ fn push_counts(page: &mut Page, journal: &FlatJournal) -> Result<(), OutOfMemory
     ensures { OnOk result (page.new ≡ spaced page.old (count_words journal.now.turns)) }
 {
     let counts = count_rows(journal);
-    push_counted(page, "turns", journal.turn_count() as u64)?;
-    push_counted(page, "lists", counts.lists)?;
-    push_counted(page, "homes", counts.homes)?;
-    push_counted(page, "wires", counts.wires)?;
-    push_counted(page, "delivers", counts.delivers)
+    push_counted(page, " turns ", journal.turn_count() as u64)?;
+    push_counted(page, " lists ", counts.lists)?;
+    push_counted(page, " homes ", counts.homes)?;
+    push_counted(page, " wires ", counts.wires)?;
+    push_counted(page, " delivers ", counts.delivers)
 }
 
 /// Adds the last line of a journal.
@@ -73,7 +73,8 @@ fn push_end(page: &mut Page, journal: &FlatJournal) -> Result<(), OutOfMemory>
     ensures { OnOk result (page.new ≡ page.old ++ end_line journal.now.head journal.now.turns) }
 {
     page.text("end")?;
-    push_counted(page, "stack", u64::from(journal.head().stack))?;
+    page.word("stack")?;
+    page.number(u64::from(journal.head().stack))?;
     push_counts(page, journal)?;
     page.text("\n")
 }

@@ -40,7 +40,7 @@ fn push_send(
     requires { SpanWithin journal.now.payloads.frames frames }
     ensures { OnOk result (page.new ≡ spaced page.old (event_words (event.Send binding cancel (frames_at journal.now.payloads.frames frames)))) }
 {
-    page.word("send")?;
+    page.text(" send")?;
     page.binding(binding)?;
     page.optional_number(cancel)?;
     push_frames(page, journal, frames)
@@ -110,7 +110,7 @@ pub fn push_event(
         FlatEvent::Indicate { frames } => push_with_frames(page, journal, "indicate", frames),
         FlatEvent::Lend { frames } => push_with_frames(page, journal, "lend", frames),
         FlatEvent::GiveBack { binding, list } => push_give_back(page, binding, list),
-        FlatEvent::Cancel { id } => push_counted(page, "cancel", u64::from(id)),
+        FlatEvent::Cancel { id } => push_counted(page, " cancel ", u64::from(id)),
         FlatEvent::Ask {
             binding,
             kind,
@@ -118,9 +118,9 @@ pub fn push_event(
             value,
         } => push_ask(page, binding, kind, code, journal.value(value)),
         FlatEvent::Status { name } => push_status(page, name),
-        FlatEvent::Transmit => page.word("transmit"),
-        FlatEvent::Pump => page.word("pump"),
-        FlatEvent::Drain => page.word("drain"),
+        FlatEvent::Transmit => page.text(" transmit"),
+        FlatEvent::Pump => page.text(" pump"),
+        FlatEvent::Drain => page.text(" drain"),
         FlatEvent::BeginPause => page.word("begin_pause"),
         FlatEvent::PauseNext => page.word("pause_next"),
         FlatEvent::RestartNext => page.word("restart_next"),
@@ -151,26 +151,26 @@ pub fn push_reply(
     ensures { OnOk result (page.new ≡ spaced page.old (reply_words (reply_of _journal.now.payloads reply))) }
 {
     match reply {
-        FlatReply::Ok => page.word("ok"),
+        FlatReply::Ok => page.text(" ok"),
         FlatReply::Inserted { filter } => push_with_filter(page, "inserted", filter),
         FlatReply::Removed => page.word("removed"),
         FlatReply::Replaced { filter } => push_with_filter(page, "replaced", filter),
-        FlatReply::Sent { list } => push_counted(page, "sent", list.0),
-        FlatReply::Indicated { list } => push_counted(page, "indicated", list.0),
-        FlatReply::Lent { list } => push_counted(page, "lent", list.0),
-        FlatReply::Cancelled { n } => push_counted(page, "cancelled", n),
-        FlatReply::Asked { request } => push_counted(page, "asked", request.0),
-        FlatReply::Wired { list } => push_counted(page, "wired", list.0),
-        FlatReply::Moved => page.word("moved"),
-        FlatReply::Idle => page.word("idle"),
+        FlatReply::Sent { list } => push_counted(page, " sent ", list.0),
+        FlatReply::Indicated { list } => push_counted(page, " indicated ", list.0),
+        FlatReply::Lent { list } => push_counted(page, " lent ", list.0),
+        FlatReply::Cancelled { n } => push_counted(page, " cancelled ", n),
+        FlatReply::Asked { request } => push_counted(page, " asked ", request.0),
+        FlatReply::Wired { list } => push_counted(page, " wired ", list.0),
+        FlatReply::Moved => page.text(" moved"),
+        FlatReply::Idle => page.text(" idle"),
         FlatReply::Next => page.word("next"),
         FlatReply::Paused => page.word("paused"),
         FlatReply::Running => page.word("running"),
-        FlatReply::Waiting { n } => push_counted(page, "waiting", n),
+        FlatReply::Waiting { n } => push_counted(page, " waiting ", n),
         FlatReply::Halted => page.word("halted"),
-        FlatReply::Taken { message, .. } => push_counted(page, "taken", message.0),
+        FlatReply::Taken { message, .. } => push_counted(page, " taken ", message.0),
         FlatReply::Nothing => page.word("nothing"),
-        FlatReply::Crossed { list } => push_counted(page, "crossed", list.0),
+        FlatReply::Crossed { list } => push_counted(page, " crossed ", list.0),
         FlatReply::Refused(refusal) => push_refused(page, refusal),
     }
 }

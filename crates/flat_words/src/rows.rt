@@ -30,9 +30,9 @@ fn push_issued(
     ensures { OnOk result (page.new ≡ spaced page.old (issued_words origin (frames_at journal.now.payloads.frames frames))) }
 {
     match origin {
-        Origin::Root => page.word("-")?,
-        Origin::Clone(list) => push_list(page, "clone", list)?,
-        Origin::Copy(list) => push_list(page, "copy", list)?,
+        Origin::Root => page.text(" -")?,
+        Origin::Clone(list) => push_list(page, " clone ", list)?,
+        Origin::Copy(list) => push_list(page, " copy ", list)?,
     }
     push_frames(page, journal, frames)
 }
@@ -63,7 +63,7 @@ fn push_wire(
     requires { SpanWithin journal.now.payloads.frames frames }
     ensures { OnOk result (page.new ≡ spaced page.old (row_words (row.Wire list (frames_at journal.now.payloads.frames frames)))) }
 {
-    push_list(page, "wire", list)?;
+    push_list(page, " wire ", list)?;
     push_frames(page, journal, frames)
 }
 
@@ -78,7 +78,7 @@ fn push_deliver(
     requires { SpanWithin journal.now.payloads.frames frames }
     ensures { OnOk result (page.new ≡ spaced page.old (row_words (row.Deliver list binding how (frames_at journal.now.payloads.frames frames)))) }
 {
-    push_list(page, "deliver", list)?;
+    push_list(page, " deliver ", list)?;
     page.binding(binding)?;
     page.word(name_of_how(how))?;
     push_frames(page, journal, frames)
@@ -94,10 +94,10 @@ fn push_out(
     ensures { OnOk result (page.new ≡ spaced page.old (out_words way (frames_at journal.now.payloads.frames frames))) }
 {
     match way {
-        OutWay::Down(list) => push_list(page, "down", list)?,
+        OutWay::Down(list) => push_list(page, " down ", list)?,
         OutWay::Up => {
-            page.word("up")?;
-            page.word("-")?;
+            page.text(" up")?;
+            page.text(" -")?;
         }
     }
     push_frames(page, journal, frames)
@@ -113,7 +113,7 @@ fn push_cross_out(
     requires { SpanWithin journal.now.payloads.frames frames }
     ensures { OnOk result (page.new ≡ spaced page.old (row_words (row.CrossOut message way (frames_at journal.now.payloads.frames frames)))) }
 {
-    page.word("crossout")?;
+    page.text(" crossout")?;
     page.number(message.0)?;
     push_out(page, journal, way, frames)
 }
@@ -129,7 +129,7 @@ fn push_cross_in(
     requires { SpanWithin journal.now.payloads.frames frames }
     ensures { OnOk result (page.new ≡ spaced page.old (row_words (row.CrossIn stack message way (frames_at journal.now.payloads.frames frames)))) }
 {
-    page.word("crossin")?;
+    page.text(" crossin")?;
     page.number(u64::from(stack))?;
     page.number(message.0)?;
     page.word(name_of_way(way))?;

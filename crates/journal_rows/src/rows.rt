@@ -1,5 +1,5 @@
 //! The words of rows.
-ghost use Rattle.std.specs.Prelude.{◌≡◌, ◌∷◌, [], OnOk, codes, decimal, map};
+ghost use Rattle.std.specs.Prelude.{◌≡◌, ◌++◌, ◌∷◌, [], OnOk, codes, decimal, map};
 ghost use Rattle.ndis_base.specs.Names.{direction_text};
 ghost use Rattle.journal_types.specs.declared.Row.TheVariants as row;
 ghost use Rattle.journal_words.specs.Words.{word, spaced, module_text, optional_text, filter_text};
@@ -47,13 +47,13 @@ fn push_issued(page: &mut Page, origin: Origin, frames: &Frames) -> Result<(), O
     ensures { OnOk result (page.new ≡ spaced page.old (issued_words origin frames.now)) }
 {
     match origin {
-        Origin::Root => page.word("-")?,
+        Origin::Root => page.text(" -")?,
         Origin::Clone(list) => {
-            page.word("clone")?;
+            page.text(" clone")?;
             page.number(list.0)?;
         }
         Origin::Copy(list) => {
-            page.word("copy")?;
+            page.text(" copy")?;
             page.number(list.0)?;
         }
     }
@@ -65,20 +65,20 @@ fn push_pass(page: &mut Page, way: PassWay, target: Target) -> Result<(), OutOfM
 {
     match way {
         PassWay::Down => {
-            page.word("down")?;
+            page.text(" down")?;
             page.target(target)
         }
         PassWay::Done(status) => {
-            page.word("done")?;
+            page.text(" done")?;
             page.target(target)?;
             page.word(name_of_list_status(status))
         }
         PassWay::Up => {
-            page.word("up")?;
+            page.text(" up")?;
             page.target(target)
         }
         PassWay::Back(status) => {
-            page.word("back")?;
+            page.text(" back")?;
             page.target(target)?;
             page.word(name_of_list_status(status))
         }
@@ -94,7 +94,7 @@ fn push_phase(page: &mut Page, of: PhaseOf) -> Result<(), OutOfMemory>
             page.word(name_of_state(state))
         }
         PhaseOf::Stack(phase) => {
-            page.word("s")?;
+            page.text(" s")?;
             page.word(name_of_phase(phase))
         }
     }
@@ -113,7 +113,7 @@ fn push_config(page: &mut Page, filters: &[u64]) -> Result<(), OutOfMemory>
     ensures { OnOk result (page.new ≡ spaced page.old (config_words filters.now)) }
 {
     match filters {
-        [] => page.word("-"),
+        [] => page.text(" -"),
         [first, more @ ..] => {
             page.filter(*first)?;
             push_filters(page, more)
@@ -125,7 +125,7 @@ fn push_parent(page: &mut Page, parent: Option<OidNo>) -> Result<(), OutOfMemory
     ensures { OnOk result (page.new ≡ word page.old (parent_text parent)) }
 {
     match parent {
-        None => page.word("-"),
+        None => page.text(" -"),
         Some(request) => page.number(request.0),
     }
 }
@@ -135,24 +135,25 @@ fn push_out(page: &mut Page, way: OutWay, frames: &Frames) -> Result<(), OutOfMe
 {
     match way {
         OutWay::Down(list) => {
-            page.word("down")?;
+            page.text(" down")?;
             page.number(list.0)?;
             page.frames(frames)
         }
         OutWay::Up => {
-            page.word("up")?;
-            page.word("-")?;
+            page.text(" up")?;
+            page.text(" -")?;
             page.frames(frames)
         }
     }
 }
 
-/// A word and the list that the row is about.
+/// A text and the list that the row is about.
+#[inline(always)]
 pub fn push_list(page: &mut Page, text: &str, list: ListNo) -> Result<(), OutOfMemory>
-    ensures { OnOk result (page.new ≡ word (word page.old text.now) (decimal list.0)) }
+    ensures { OnOk result (page.new ≡ (page.old ++ text.now) ++ decimal list.0) }
 {
-    page.word(text)?;
-    page.number(list.0)
+    page.text(text)?;
+    page.digits(list.0)
 }
 
 /// What an issued list is, up to its configuration.
@@ -164,7 +165,7 @@ pub fn push_new_list(
 ) -> Result<(), OutOfMemory>
     ensures { OnOk result (page.new ≡ spaced page.old (codes "issue" ∷ decimal list.0 ∷ module_text owner ∷ decimal config.0 ∷ [])) }
 {
-    push_list(page, "issue", list)?;
+    push_list(page, " issue ", list)?;
     page.module(owner)?;
     page.number(config.0)
 }
@@ -192,7 +193,7 @@ pub fn push_give(
 ) -> Result<(), OutOfMemory>
     ensures { OnOk result (page.new ≡ spaced page.old (row_words (row.Give list «module» handler))) }
 {
-    push_list(page, "give", list)?;
+    push_list(page, " give ", list)?;
     page.module(module)?;
     page.word(name_of_handler(handler))
 }
@@ -205,14 +206,14 @@ pub fn push_passed(
 ) -> Result<(), OutOfMemory>
     ensures { OnOk result (page.new ≡ spaced page.old (row_words (row.Pass list way to))) }
 {
-    push_list(page, "pass", list)?;
+    push_list(page, " pass ", list)?;
     push_pass(page, way, to)
 }
 
 pub fn push_keep(page: &mut Page, list: ListNo, module: ModuleId) -> Result<(), OutOfMemory>
     ensures { OnOk result (page.new ≡ spaced page.old (row_words (row.Keep list «module»))) }
 {
-    push_list(page, "keep", list)?;
+    push_list(page, " keep ", list)?;
     page.module(module)
 }
 
@@ -224,7 +225,7 @@ pub fn push_turn_back(
 ) -> Result<(), OutOfMemory>
     ensures { OnOk result (page.new ≡ spaced page.old (row_words (row.TurnBack list «module» status))) }
 {
-    push_list(page, "turnback", list)?;
+    push_list(page, " turnback ", list)?;
     page.module(module)?;
     page.word(name_of_list_status(status))
 }
@@ -237,7 +238,7 @@ pub fn push_home(
 ) -> Result<(), OutOfMemory>
     ensures { OnOk result (page.new ≡ spaced page.old (row_words (row.Home list owner status))) }
 {
-    push_list(page, "home", list)?;
+    push_list(page, " home ", list)?;
     page.module(owner)?;
     page.word(name_of_list_status(status))
 }
@@ -245,7 +246,7 @@ pub fn push_home(
 fn push_wire(page: &mut Page, list: ListNo, frames: &Frames) -> Result<(), OutOfMemory>
     ensures { OnOk result (page.new ≡ spaced page.old (row_words (row.Wire list frames.now))) }
 {
-    push_list(page, "wire", list)?;
+    push_list(page, " wire ", list)?;
     page.frames(frames)
 }
 
@@ -258,7 +259,7 @@ fn push_deliver(
 ) -> Result<(), OutOfMemory>
     ensures { OnOk result (page.new ≡ spaced page.old (row_words (row.Deliver list binding how frames.now))) }
 {
-    push_list(page, "deliver", list)?;
+    push_list(page, " deliver ", list)?;
     page.binding(binding)?;
     page.word(name_of_how(how))?;
     page.frames(frames)
@@ -267,7 +268,7 @@ fn push_deliver(
 pub fn push_phase_row(page: &mut Page, of: PhaseOf) -> Result<(), OutOfMemory>
     ensures { OnOk result (page.new ≡ spaced page.old (row_words (row.Phase of))) }
 {
-    page.word("phase")?;
+    page.text(" phase")?;
     push_phase(page, of)
 }
 
@@ -278,7 +279,7 @@ pub fn push_config_row(
 ) -> Result<(), OutOfMemory>
     ensures { OnOk result (page.new ≡ spaced page.old (row_words (row.Config config filters.now))) }
 {
-    page.word("config")?;
+    page.text(" config")?;
     page.number(config.0)?;
     push_config(page, filters)
 }
@@ -294,7 +295,7 @@ pub fn push_oid_issue(
 ) -> Result<(), OutOfMemory>
     ensures { OnOk result (page.new ≡ spaced page.old (row_words (row.OidIssue request parent binding kind code value.now))) }
 {
-    page.word("oidissue")?;
+    page.text(" oidissue")?;
     page.number(request.0)?;
     push_parent(page, parent)?;
     page.binding(binding)?;
@@ -306,7 +307,7 @@ pub fn push_oid_issue(
 pub fn push_oid_give(page: &mut Page, request: OidNo, module: ModuleId) -> Result<(), OutOfMemory>
     ensures { OnOk result (page.new ≡ spaced page.old (row_words (row.OidGive request «module»))) }
 {
-    page.word("oidgive")?;
+    page.text(" oidgive")?;
     page.number(request.0)?;
     page.module(module)
 }
@@ -319,7 +320,7 @@ pub fn push_oid_done(
 ) -> Result<(), OutOfMemory>
     ensures { OnOk result (page.new ≡ spaced page.old (row_words (row.OidDone request status value.now))) }
 {
-    page.word("oiddone")?;
+    page.text(" oiddone")?;
     page.number(request.0)?;
     page.word(name_of_oid_status(status))?;
     page.value(value)
@@ -333,7 +334,7 @@ pub fn push_status(
 ) -> Result<(), OutOfMemory>
     ensures { OnOk result (page.new ≡ spaced page.old (row_words (row.Status number name to))) }
 {
-    page.word("status")?;
+    page.text(" status")?;
     page.number(number.0)?;
     page.word(name_of_status_name(name))?;
     page.target(to)
@@ -342,7 +343,7 @@ pub fn push_status(
 pub fn push_seen(page: &mut Page, number: StatusNo, module: ModuleId) -> Result<(), OutOfMemory>
     ensures { OnOk result (page.new ≡ spaced page.old (row_words (row.Seen number «module»))) }
 {
-    page.word("seen")?;
+    page.text(" seen")?;
     page.number(number.0)?;
     page.module(module)
 }
@@ -355,7 +356,7 @@ fn push_cross_out(
 ) -> Result<(), OutOfMemory>
     ensures { OnOk result (page.new ≡ spaced page.old (row_words (row.CrossOut message way frames.now))) }
 {
-    page.word("crossout")?;
+    page.text(" crossout")?;
     page.number(message.0)?;
     push_out(page, way, frames)
 }
@@ -369,7 +370,7 @@ fn push_cross_in(
 ) -> Result<(), OutOfMemory>
     ensures { OnOk result (page.new ≡ spaced page.old (row_words (row.CrossIn stack message way frames.now))) }
 {
-    page.word("crossin")?;
+    page.text(" crossin")?;
     page.number(u64::from(stack))?;
     page.number(message.0)?;
     page.word(name_of_way(way))?;
