@@ -1,0 +1,3 @@
+pub mod Firsts
+pub mod Ended
+pub mod Sends
