@@ -125,7 +125,7 @@ returned_is net x l status same own none =
 abbrev pub transmit_rows : Net → Bool → Common → List Row
 transmit_rows net looping c = row.Wire c.list c.frames ∷ (cond looping (start_rows net Miniport direction.Up None c.frames) [] ++ home_row net.modules Miniport c Success ∷ [])
 
-in_wired_home : {b : TrayView} {h : Hands} {t : TrayView} {loose rest : List ListView} (l : ListView)
+pub in_wired_home : {b : TrayView} {h : Hands} {t : TrayView} {loose rest : List ListView} (l : ListView)
     → InCall b h Miniport [] [] [] t (record { front = []; loose = loose; kept = l ∷ rest })
     → InCall b h Miniport (transmit_rows b.net false (in_hand l)) [] (l.frames ∷ []) (tray.passed_back (tray.wired t l) l Success) (record { front = []; loose = loose; kept = rest })
 in_wired_home {b} {h} {t} {loose} {rest} l i =
@@ -134,7 +134,7 @@ in_wired_home {b} {h} {t} {loose} {rest} l i =
     subst (λ r. InCall b h Miniport (row.Wire l.label.number l.frames ∷ r ∷ []) [] (l.frames ∷ []) (tray.passed_back t1 l Success) (record { front = []; loose = loose; kept = rest })) (homeward_in l Success wired)
     (in_passed_kept [] rest l (tray.homeward_row t1 l Success) wired (homeward_is t1 l Success))
 
-in_wired_looped : {b : TrayView} {h : Hands} {t : TrayView} {loose rest : List ListView} (l : ListView) (begun : TrayView)
+pub in_wired_looped : {b : TrayView} {h : Hands} {t : TrayView} {loose rest : List ListView} (l : ListView) (begun : TrayView)
     → InCall b h Miniport [] [] [] t (record { front = []; loose = loose; kept = l ∷ rest }) → AreSized l.frames → Starts (tray.wired t l) direction.Up None l.frames begun
     → InCall b h Miniport (transmit_rows t.net true (in_hand l)) [] (l.frames ∷ []) (tray.passed_back begun l Success) (record { front = []; loose = loose; kept = rest })
 in_wired_looped {b} {h} {t} {loose} {rest} l begun i sized starts =

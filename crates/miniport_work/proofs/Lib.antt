@@ -1,3 +1,4 @@
 pub mod Firsts
 pub mod Ended
 pub mod Sends
+pub mod Transmits
