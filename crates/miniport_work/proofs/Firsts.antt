@@ -2,9 +2,11 @@
 use Rattle.std.proofs.Common.{◌≡◌, ◌≢◌, ℕ, true, List, [], ◌∷◌, Option, Some, IsSome, refl, sym, ap, ◌∙◌, subst}
 use Rattle.ndis_base.specs.declared.Direction.{Direction}
 use Rattle.ndis_base.specs.declared.Direction.TheVariants as direction
+use Rattle.ndis_base.specs.declared.ListStatus.{ListStatus}
 use Rattle.ndis_base.specs.declared.Phase.{Phase}
 use Rattle.ndis_base.specs.declared.Phase.TheVariants as phase
 use Rattle.journal_types.specs.declared.PassWay.{PassWay}
+use Rattle.journal_types.specs.declared.PassWay.TheVariants as ways
 use Rattle.journal_types.specs.declared.PortSetup.{PortSetup}
 use Rattle.journal_types.specs.declared.Target.{Target}
 use Rattle.journal_types.specs.declared.Target.TheVariants.{Module}
@@ -34,7 +36,7 @@ use Rattle.book_lemmas.proofs.Between.{not_halted}
 use Rattle.book_parts.specs.Events.{IsBook, IsIdle, FirstIs}
 use Rattle.book_parts.proofs.Ended.{idle_state}
 use Rattle.book_parts.proofs.Events.{Begins, begins_roomed}
-use Rattle.miniport_work.specs.Works.{StartsWithList, IsRoomed, IsReady}
+use Rattle.miniport_work.specs.Works.{GoesToMiniport, comes_down, comes_back, StartsWithList, IsRoomed, IsReady}
 
 -- where a list is the first, nothing else is
 pub no_status : {queue rest : List Carried} {i : Item} {s : StatusAway} → StartsWithList queue → queue ≡ kept_as i ∷ rest → i ≡ item.Status s → ⊥
@@ -105,11 +107,11 @@ pub record IsTaken (old : BookView) (l : ListView) (way : PassWay) (t : TrayView
   pub begins : Begins old.tray t (a_list l way (Module Miniport) ∷ [])
   pub list : IsFirstList old l way (Module Miniport)
 
-to_is : {old : BookView} {before t : TrayView} {l : ListView} {way w : PassWay} {to : Target} → FirstIs old w (Module Miniport) → IsRoomed old.tray before → before ≡ record t { queue = a_list l way to ∷ t.queue } → (to ≡ Module Miniport) × (way ≡ w)
+to_is : {old : BookView} {before t : TrayView} {l : ListView} {way w : PassWay} {to : Target} → (f : FirstIs old w (Module Miniport)) → IsRoomed old.tray before → before ≡ record t { queue = a_list l way to ∷ t.queue } → (to ≡ Module Miniport) × (way ≡ w) × (f.list ≡ l)
 to_is {old} {before} {t} {l} {way} {w} {to} f r e =
     let a : old.tray.queue ≡ a_list f.list w (Module Miniport) ∷ f.rest = f.first in
     let b : old.tray.queue ≡ a_list l way to ∷ t.queue = sym (ap (λ (q : TrayView). q.queue) r.same) ∙ ap (λ (q : TrayView). q.queue) e in
-    (cc, cc)
+    (cc, cc, cc)
 
 pub taken_is : {old : BookView} {before t : TrayView} {l : ListView} {way w : PassWay} {to : Target} → IsBook old → IsIdle old → FirstIs old w (Module Miniport) → IsRoomed old.tray before → before ≡ record t { queue = a_list l way to ∷ t.queue }
     → IsTaken old l w t
@@ -125,3 +127,36 @@ pub ready_taken : {room : Room} {things : ℕ} {s : MiniportState} {before t : T
 ready_taken {room} {things} {s} {before} {t} {queue} e r =
     let q : IsReady room things s (record t { queue = queue }) = subst (IsReady room things s) e r in
     record { send = q.send; returned = q.returned; covers = q.covers; slack = q.slack; low = q.low }
+
+-- which list was taken, by which way it is passed
+way_clash : {old : BookView} {before t : TrayView} {l : ListView} {way w v : PassWay} {to : Target} → FirstIs old w (Module Miniport) → IsRoomed old.tray before → before ≡ record t { queue = a_list l way to ∷ t.queue } → way ≡ v → w ≡ v
+way_clash f r e is = sym (to_is f r e).1 ∙ is
+
+pub down_first : {old : BookView} {before t : TrayView} {l : ListView} {way : PassWay} {to : Target} → GoesToMiniport old → IsRoomed old.tray before → before ≡ record t { queue = a_list l way to ∷ t.queue } → way ≡ ways.Down
+    → FirstIs old ways.Down (Module Miniport)
+down_first (comes_down f) r e is = f
+down_first (comes_back status f up) r e is = let other : ways.Back status ≡ ways.Down = way_clash f r e is in cc
+
+-- a receive that comes back
+pub record ComesBack (old : BookView) (l : ListView) (status : ListStatus) : Type 0 where
+  pub first : FirstIs old (ways.Back status) (Module Miniport)
+  pub up : l.label.direction ≡ direction.Up
+
+pub back_first : {old : BookView} {before t : TrayView} {l : ListView} {way : PassWay} {to : Target} {status : ListStatus} → GoesToMiniport old → IsRoomed old.tray before → before ≡ record t { queue = a_list l way to ∷ t.queue } → way ≡ ways.Back status
+    → ComesBack old l status
+back_first (comes_down f) r e is = let other = way_clash f r e is in cc
+back_first {old} {status = status} (comes_back was f up) r e is =
+    let same : ways.Back was ≡ ways.Back status = way_clash f r e is in
+    let told : was ≡ status = cc in
+    record {
+      first = subst (λ s. FirstIs old (ways.Back s) (Module Miniport)) told f;
+      up = ap (λ (k : ListView). k.label.direction) (sym (to_is f r e).2) ∙ up;
+    }
+
+pub not_up : {old : BookView} {before t : TrayView} {l : ListView} {way : PassWay} {to : Target} → GoesToMiniport old → IsRoomed old.tray before → before ≡ record t { queue = a_list l way to ∷ t.queue } → way ≡ ways.Up → ⊥
+not_up (comes_down f) r e is = let other = way_clash f r e is in cc
+not_up (comes_back status f up) r e is = let other = way_clash f r e is in cc
+
+pub not_done : {old : BookView} {before t : TrayView} {l : ListView} {way : PassWay} {to : Target} {status : ListStatus} → GoesToMiniport old → IsRoomed old.tray before → before ≡ record t { queue = a_list l way to ∷ t.queue } → way ≡ ways.Done status → ⊥
+not_done (comes_down f) r e is = let other = way_clash f r e is in cc
+not_done (comes_back status f up) r e is = let other = way_clash f r e is in cc

@@ -101,10 +101,10 @@ module _ (old : BookView) (t : TrayView) (running : Bool) (k : IsBook old) (g : 
       let o = oldest (kept_lists old.tray.net Miniport) l rest (ap (map in_hand) (sym kept) ∙ k.stands.agrees.kept_is Miniport) in
       let first : first_in_ring old.tray.net ≡ Some o.x = cond-false (is_virtual old.tray.net.head.kind) None (first_of (kept_lists old.tray.net Miniport)) (ap is_virtual (sym kind) ∙ ring) ∙ o.first in
       let are : transmit_rows t.net looping (in_hand l) ≡ (transmit_outcome old.tray.net).rows =
-          ap (λ (n : Net). transmit_rows n looping (in_hand l)) g.net
-          ∙ ap (λ (c : Common). transmit_rows old.tray.net looping c) (sym o.same)
-          ∙ ap (λ q. transmit_rows old.tray.net q (in_state o.x)) (sym is)
-          ∙ sym (ap (λ q. (transmit_of old.tray.net q).rows) first) in
+      ap (λ (n : Net). transmit_rows n looping (in_hand l)) g.net
+      ∙ ap (λ (c : Common). transmit_rows old.tray.net looping c) (sym o.same)
+      ∙ ap (λ q. transmit_rows old.tray.net q (in_state o.x)) (sym is)
+      ∙ sym (ap (λ q. (transmit_of old.tray.net q).rows) first) in
       let low : length (l ∷ rest) ≤ old.tray.net.head.port.ring = subst (λ ls. length ls ≤ old.tray.net.head.port.ring) kept k.stands.ring in
       record {
         log = l.frames ∷ [];

@@ -2,15 +2,12 @@
 ghost use Rattle.std.specs.Prelude.{◌≡◌, OnOk, OnErr, IfOk};
 ghost use Rattle.journal_types.specs.declared.Event.TheVariants as event;
 ghost use Rattle.journal_types.specs.declared.Reply.TheVariants as reply;
-ghost use Rattle.journal_types.specs.declared.PassWay.TheVariants as way;
-ghost use Rattle.journal_types.specs.declared.Target.TheVariants.{Module};
-ghost use Rattle.ndis_base.specs.declared.ModuleId.TheVariants.{Miniport};
-ghost use Rattle.book_parts.specs.Events.{IsBook, IsIdle, FirstIs, DidEvent, IsUnmoved, CanEnd};
+ghost use Rattle.book_parts.specs.Events.{IsBook, IsIdle, DidEvent, IsUnmoved, CanEnd};
 ghost use Rattle.book_parts.specs.Parts.{view_of};
 ghost use Rattle.stack_rules.specs.Tests.{phase_is_running};
-ghost use Rattle.miniport_work.specs.Works.{wired_as};
+ghost use Rattle.miniport_work.specs.Works.{GoesToMiniport, wired_as};
 
-use crate::calls::{give_to, make_room, take_list, transmit_from};
+use crate::calls::{give_back_to, give_to, make_room, take_list, transmit_from};
 use book_parts::BookParts;
 use driver_calls::{FilterCalls, MiniportCalls, ProtocolCalls};
 use flat_journal::Room;
@@ -23,7 +20,7 @@ pub fn work_miniport<M: MiniportCalls, P: ProtocolCalls, F: FilterCalls>(
 ) -> Result<(), OutOfMemory>
     requires book { IsBook (view_of M.state P.state F.state book.old) }
     requires idle { IsIdle (view_of M.state P.state F.state book.old) }
-    requires first { FirstIs (view_of M.state P.state F.state book.old) way.Down (Module Miniport) }
+    requires first { GoesToMiniport (view_of M.state P.state F.state book.old) }
     ensures did { OnOk result (DidEvent (view_of M.state P.state F.state book.old) (view_of M.state P.state F.state book.new) event.Pump reply.Moved) }
     ensures turn { OnOk result (CanEnd (view_of M.state P.state F.state book.new)) }
     ensures memory { OnErr result (IsUnmoved (view_of M.state P.state F.state book.old) (view_of M.state P.state F.state book.new)) }
@@ -47,9 +44,17 @@ pub fn work_miniport<M: MiniportCalls, P: ProtocolCalls, F: FilterCalls>(
                 list,
             );
         }
-        PassWay::Back(_) => unreachable!(),
+        PassWay::Back(status) => {
+            give_back_to(
+                &mut book.miniport,
+                &mut book.tray,
+                &mut book.miniport_pool,
+                list,
+                status,
+            );
+        }
         PassWay::Up => unreachable!(),
-        PassWay::Done(_) => unreachable!(),
+        PassWay::Done(_status) => unreachable!(),
     }
     Ok(())
 }
