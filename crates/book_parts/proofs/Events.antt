@@ -20,11 +20,11 @@ use Rattle.book_lemmas.specs.Stands.{Stands}
 use Rattle.book_lemmas.specs.Turns.{HasUsed}
 use Rattle.book_lemmas.specs.Views.{BookView, HeldView, hands_of}
 use Rattle.book_lemmas.proofs.Follows.{follows_rows}
-use Rattle.book_lemmas.proofs.Goes.{did_none, used_then}
+use Rattle.book_lemmas.proofs.Goes.{did_none, used_none, used_then}
 use Rattle.driver_tray.specs.Tray.{TrayView, begun_by}
 use Rattle.call_lemmas.specs.InCall.{InCall}
 use Rattle.call_lemmas.proofs.Ends.{leaves}
-use Rattle.book_parts.specs.Events.{IsBook, IsIdle, DidEvent, IsUnmoved}
+use Rattle.book_parts.specs.Events.{IsBook, IsIdle, DidEvent, IsUnmoved, begun_with}
 
 -- the tray is as the event found it, but for room, the module that is called, its pool, and what was taken from the queue
 pub record Begins (old b : TrayView) (front : List Carried) : Type 0 where
@@ -57,12 +57,7 @@ begins_roomed old t same room slack = record {
 -- a module is called, with its pool
 pub begins_called : {old t : TrayView} {front : List Carried} (m : ModuleId) (pool : PoolView) → Begins old t front → Begins old (record t { caller = m; pool = pool }) front
 begins_called {old} {t} m pool g = record {
-  head = g.head;
-  turns = g.turns;
-  told_by = g.told_by;
-  net = g.net;
-  rows = g.rows;
-  queue = g.queue;
+  head = g.head; turns = g.turns; told_by = g.told_by; net = g.net; rows = g.rows; queue = g.queue;
   used = record { rows_used = g.used.rows_used; frames = g.used.frames; bytes = g.used.bytes; slack = g.used.slack; turns = g.used.turns };
 }
 
