@@ -1,7 +1,7 @@
 -- A send of a binding that is done is home, as the rules have it.
-use Rattle.std.proofs.Common.{◌≡◌, ℕ, ◌≤◌, ◌<◌, Bool, true, false, cond, List, [], ◌∷◌, ◌++◌, Option, Some, None, length, map, slice_index_or, slice_set, refl, sym, ap, ◌∙◌, subst, arith, get_or-set_same, ◌⊎◌, inl, inr, All}
-use Rattle.std.proofs.lemmas.Bool.{cond-true}
-use Rattle.std.proofs.lemmas.List.{map-set, get_or-map, length-map}
+use Rattle.std.proofs.Common.{◌≡◌, ℕ, ◌≤◌, ◌<◌, ◌^◌, Bool, true, false, List, [], ◌∷◌, ◌++◌, Some, length, map, slice_index_or, slice_set, refl, sym, ap, ◌∙◌, subst, arith, get_or-set_same, ◌⊎◌, inl, inr, All}
+use Rattle.std.proofs.lemmas.Bool.{cond-true, cases_lt}
+use Rattle.std.proofs.lemmas.List.{map-set, get_or-map, get_or_past, length-map}
 use Rattle.std.proofs.lemmas.List.Elements.{All-nil, All-cons, All-head, All-tail}
 use Rattle.ndis_base.specs.declared.Direction.{Direction}
 use Rattle.ndis_base.specs.declared.Direction.TheVariants as direction
@@ -11,15 +11,17 @@ use Rattle.ndis_base.specs.declared.ModuleId.{ModuleId}
 use Rattle.ndis_base.specs.declared.ModuleId.TheVariants.{Filter, Binding}
 use Rattle.ndis_base.specs.declared.Origin.TheVariants as origin
 use Rattle.journal_types.specs.declared.Event.TheVariants as event
+use Rattle.journal_types.specs.declared.PassWay.{PassWay}
 use Rattle.journal_types.specs.declared.PassWay.TheVariants as way
 use Rattle.journal_types.specs.declared.Reply.TheVariants as reply
 use Rattle.journal_types.specs.declared.Row.{Row}
 use Rattle.journal_types.specs.declared.Row.TheVariants as row
+use Rattle.journal_types.specs.declared.StackHead.{StackHead}
+use Rattle.journal_types.specs.declared.Target.{Target}
 use Rattle.journal_types.specs.declared.Target.TheVariants.{Module}
 use Rattle.buffer_pools.specs.Views.{ListView, PoolView, IsOf}
 use Rattle.stack_rules.specs.declared.LiveList.{LiveList}
 use Rattle.stack_rules.specs.declared.Stand.TheVariants as stand
-use Rattle.stack_rules.specs.declared.Thing.{Thing}
 use Rattle.stack_rules.specs.declared.Thing.TheVariants as thing
 use Rattle.stack_rules.specs.Dones.{released, homeward_rows}
 use Rattle.stack_rules.specs.Net.{Net, lists, list_of}
@@ -27,15 +29,16 @@ use Rattle.stack_rules.specs.Outcome.{Outcome}
 use Rattle.stack_rules.specs.Places.{agenda_first, position}
 use Rattle.stack_rules.specs.Pumps.{pump_of, pump_outcome, moved_rows}
 use Rattle.stack_rules.specs.Tests.{is_down, same_module}
-use Rattle.place_laws.specs.Kept.{HasOriginal, IsOriginal}
+use Rattle.place_laws.specs.Kept.{HasOriginal}
 use Rattle.pause_laws.proofs.Works.{each_away}
 use Rattle.promise_rules.specs.declared.Call.{Call}
 use Rattle.promise_rules.specs.declared.Called.TheVariants as called
 use Rattle.promise_rules.specs.Calls.{call, home_call}
 use Rattle.agenda_items.specs.declared.Carried.{Carried}
 use Rattle.agenda_items.specs.declared.Carried.TheVariants.{List as a_list}
-use Rattle.driver_views.specs.States.{ProtocolState, called_for}
-use Rattle.hand_lemmas.specs.Hands.{Common, IsHoused, in_hand, in_state}
+use Rattle.driver_views.specs.declared.Served.{Served}
+use Rattle.driver_views.specs.States.{ProtocolState}
+use Rattle.hand_lemmas.specs.Hands.{Common, in_hand, in_state}
 use Rattle.hand_lemmas.proofs.Modules.{same_self}
 use Rattle.hand_lemmas.proofs.Tells.{IsNext, next_list}
 use Rattle.book_lemmas.specs.Between.{IsBetween}
@@ -46,17 +49,18 @@ use Rattle.book_lemmas.proofs.Between.{not_halted, listed, goes_done}
 use Rattle.book_lemmas.proofs.Called.{protocol_is_called, protocol_leaves}
 use Rattle.driver_tray.specs.Tray.{TrayView, Spends, spent}
 use Rattle.driver_calls.specs.Protocols.{IsSentHome}
+use Rattle.driver_calls.specs.Rooms.{CanCount}
 use Rattle.call_lemmas.specs.InCall.{InCall}
 use Rattle.call_lemmas.specs.Served.{Counts}
 use Rattle.call_lemmas.proofs.Ends.{enters}
 use Rattle.call_lemmas.proofs.Miniports.{released_none}
 use Rattle.call_lemmas.proofs.Served.{counts_call, did_protocol}
 use Rattle.call_lemmas.proofs.Steps.{in_spent}
-use Rattle.book_parts.specs.Events.{IsBook, IsIdle, FirstIs}
+use Rattle.book_parts.specs.Events.{IsBook, IsIdle, IsUnmoved}
 use Rattle.binding_work.specs.Sends.{called_with}
-use Rattle.binding_work.specs.Homes.{IsDoneFor, ComesHome}
-use Rattle.book_parts.proofs.Events.{Begins, begins_called, begins_stands, did_event, ends_call}
-use Rattle.binding_work.proofs.Sending.{IsBound, IsDone, between, any_choice}
+use Rattle.binding_work.specs.Homes.{BeginsWithList, IsDoneFor, IsRoomed, IsReadyFor, MayComeHome, ComesHome, HasComeHome}
+use Rattle.book_parts.proofs.Events.{Begins, begins_called, begins_roomed, begins_stands, did_event, ends_call, unmoved}
+use Rattle.binding_work.proofs.Sending.{IsBound, IsDone, between, head_is, is_bound, any_choice}
 
 -- an element at its place, and its state
 any_default : {X : Type 0} (xs : List X) (i : ℕ) (d e : X) → i < length xs → slice_index_or xs i d ≡ slice_index_or xs i e
@@ -157,11 +161,11 @@ home_event old t mid binding l status s' k i b turns begins spends sent =
     let rows : List Row = row.Home l.label.number l.label.owner status ∷ [] in
     let calls : home_call l.label.owner l.label.direction ≡ call m called.SendComplete = ap (λ w. home_call w l.label.direction) o.owner ∙ ap (home_call m) o.down in
     let did : InHomeBy old t binding l status (call m called.SendComplete) mid = subst (InHomeBy old t binding l status (call m called.SendComplete)) (sym spends.tray)
-        (subst (λ cs. InHomeBy old t binding l status cs (spent (called_with t m pool) l status mid.pool)) calls done) in
+    (subst (λ cs. InHomeBy old t binding l status cs (spent (called_with t m pool) l status mid.pool)) calls done) in
     let ends = ends_call (protocol_called old.held binding s' mid.pool) t.pool k g did
-        (subst (λ ks. IsCalled old.held (protocol_called old.held binding s' mid.pool) m ks mid.pool) (ap (λ (x : ProtocolState). x.kept) sent.same) (protocol_is_called old.held binding s' mid.pool b.protocols b.pools))
-        (protocol_leaves old.held binding s' mid.pool b.protocols b.pools (ap (λ (x : ProtocolState). x.kind) sent.same) (ap (λ (x : ProtocolState). x.is_open) sent.same) did.size did.bytes) k.stands.ring
-        (did_protocol old.held s' mid.pool did b.protocols (refl, tt) (subst (λ (x : ProtocolState). Counts m (call m called.SendComplete) [] s.did x.did) (sym sent.same) (counts_call m called.SendComplete s.did))) in
+    (subst (λ ks. IsCalled old.held (protocol_called old.held binding s' mid.pool) m ks mid.pool) (ap (λ (x : ProtocolState). x.kept) sent.same) (protocol_is_called old.held binding s' mid.pool b.protocols b.pools))
+    (protocol_leaves old.held binding s' mid.pool b.protocols b.pools (ap (λ (x : ProtocolState). x.kind) sent.same) (ap (λ (x : ProtocolState). x.is_open) sent.same) did.size did.bytes) k.stands.ring
+    (did_protocol old.held s' mid.pool did b.protocols (refl, tt) (subst (λ (x : ProtocolState). Counts m (call m called.SendComplete) [] s.did x.did) (sym sent.same) (counts_call m called.SendComplete s.did))) in
     let outcome_is = pump_is old.tray.net o.x false o.first in
     record {
       did = did_event old _ rows event.Pump any_choice reply.Moved k i ends (sym (ap (λ (q : Outcome). q.reply) outcome_is))
@@ -180,3 +184,103 @@ homed_event old t new binding l status k i b turns begins c held =
   where
     book_is : {new : BookView} {t : TrayView} {h : HeldView} → new.tray ≡ t → new.held ≡ h → record { tray = t; held = h } ≡ new
     book_is {new} {t} {h} e f = ap (λ x. record { tray = x; held = h }) (sym e) ∙ ap (λ x. record { tray = new.tray; held = x }) (sym f)
+
+-- a list that is housed at a binding is of a binding that is there
+housed_there : (pools : List PoolView) (binding : ℕ) (l : ListView) → IsOf (slice_index_or pools binding no_pool) l → (binding < length pools) ⊎ (length pools ≤ binding) → binding < length pools
+housed_there pools binding l o (inl low) = low
+housed_there pools binding l o (inr high) = absurd (no_live l (subst (λ p. IsOf p l) (get_or_past pools binding no_pool high) o))
+  where
+    no_live : (l : ListView) → IsOf no_pool l → ⊥
+    no_live l o = let some = o.live in cc
+
+pub done_there : (old : BookView) (binding : ℕ) → IsBook old → IsIdle old → IsDoneFor old binding → IsBound old binding
+done_there old binding k i d =
+    let o = own_send old d.first.list d.status binding d.first.rest k i d.first.first in
+    let low : binding < length old.held.protocol_pools = housed_there old.held.protocol_pools binding d.first.list o.housed (cases_lt binding (length old.held.protocol_pools)) in
+    is_bound old binding k i (subst (λ n. binding < n) (k.stands.protocol_pools ∙ ap (λ (h : StackHead). length h.bindings) (head_is old k i)) low)
+
+-- the list that was taken is the one that is done
+pub record IsTakenDone (binding : ℕ) (old t : TrayView) (l : ListView) (w : PassWay) (to : Target) : Type 0 where
+  pub status : ListStatus
+  pub way_is : w ≡ way.Done status
+  pub to_is : to ≡ Module (Binding binding)
+
+pub taken_done : (v : BookView) (t : TrayView) (binding : ℕ) (l : ListView) (w : PassWay) (to : Target) → IsDoneFor v binding → v.tray ≡ record t { queue = a_list l w to ∷ t.queue } → IsTakenDone binding v.tray t l w to
+taken_done v t binding l w to d e =
+    let queue : v.tray.queue ≡ a_list l w to ∷ t.queue = ap (λ (x : TrayView). x.queue) e in
+    let first : v.tray.queue ≡ a_list d.first.list (way.Done d.status) (Module (Binding binding)) ∷ d.first.rest = d.first.first in
+    let way_is : w ≡ way.Done d.status = cc in
+    let to_is : to ≡ Module (Binding binding) = cc in
+    record { status = d.status; way_is = way_is; to_is = to_is }
+
+pub taken_so : (v : BookView) (t : TrayView) (binding : ℕ) (l : ListView) (w : PassWay) (to : Target) (status : ListStatus) → IsDoneFor v binding → v.tray ≡ record t { queue = a_list l w to ∷ t.queue } → w ≡ way.Done status
+    → v.tray ≡ record t { queue = a_list l (way.Done status) (Module (Binding binding)) ∷ t.queue }
+taken_so v t binding l w to status d e is =
+    let taken = taken_done v t binding l w to d e in
+    e ∙ ap (λ x. record t { queue = a_list l x to ∷ t.queue }) is ∙ ap (λ x. record t { queue = a_list l (way.Done status) x ∷ t.queue }) taken.to_is
+
+pub may_come_home : (v : BookView) (t : TrayView) (binding : ℕ) (l : ListView) (w : PassWay) (to : Target) (status : ListStatus) → IsBook v → IsIdle v → IsDoneFor v binding → v.tray ≡ record t { queue = a_list l w to ∷ t.queue } → w ≡ way.Done status
+    → 1 ≤ v.tray.room.rows → CanCount called.SendComplete (slice_index_or v.held.protocols binding no_protocol).did.served
+    → MayComeHome (slice_index_or v.held.protocols binding no_protocol) l t (slice_index_or v.held.protocol_pools binding no_pool)
+may_come_home v t binding l w to status k i d e is rows count =
+    let so = taken_so v t binding l w to status d e is in
+    record {
+      count = count;
+      own = (own_send v l status binding t.queue k i (ap (λ (x : TrayView). x.queue) so)).housed;
+      rows = subst (λ (x : TrayView). 1 ≤ x.room.rows) so rows;
+    }
+
+-- the book with more room
+pub roomed_unmoved : (old new : BookView) → IsBook old → IsRoomed old new → IsUnmoved old new
+roomed_unmoved old new k r =
+    subst (IsUnmoved old) (ap (λ h. record { tray = new.tray; held = h }) (sym r.held)) (unmoved new.tray k (begins_roomed old.tray new.tray r.tray r.covers r.slack))
+
+pub roomed_idle : (old new : BookView) → IsIdle old → IsRoomed old new → IsIdle new
+roomed_idle old new i r = record { rows = ap (λ (t : TrayView). t.rows) r.tray ∙ i.rows; told_by = ap (λ (t : TrayView). t.told_by) r.tray ∙ i.told_by }
+
+pub roomed_done : (old new : BookView) (binding : ℕ) → IsDoneFor old binding → IsRoomed old new → IsDoneFor new binding
+roomed_done old new binding d r = record { status = d.status; first = record { list = d.first.list; rest = d.first.rest; first = ap (λ (t : TrayView). t.queue) r.tray ∙ d.first.first } }
+
+-- the whole event
+pub owner_event : (old mid new : BookView) (binding : ℕ) → IsBook old → IsIdle old → IsDoneFor old binding → IsReadyFor binding old mid → HasComeHome binding mid new → IsDone old new event.Pump reply.Moved
+owner_event old mid new binding k i d r c =
+    let g = begins_roomed old.tray mid.tray r.roomed.tray r.roomed.covers r.roomed.slack in
+    homed_event old c.taken new binding c.list c.status k i (done_there old binding k i d) (subst (λ (t : TrayView). 1 ≤ t.room.turns) c.takes r.turns)
+    (begins_taken old.tray c.taken (a_list c.list (way.Done c.status) (Module (Binding binding))) (subst (λ (t : TrayView). Begins old.tray t []) c.takes g))
+    (subst (λ (h : HeldView). ComesHome binding c.list c.status (slice_index_or h.protocols binding no_protocol) c.taken (slice_index_or h.protocol_pools binding no_pool) (slice_index_or new.held.protocols binding no_protocol) new.tray (slice_index_or new.held.protocol_pools binding no_pool)) r.roomed.held c.home)
+    (subst (λ (h : HeldView). new.held ≡ protocol_called h binding (slice_index_or new.held.protocols binding no_protocol) (slice_index_or new.held.protocol_pools binding no_pool)) r.roomed.held c.held)
+  where
+    begins_taken : (old t : TrayView) (c : Carried) → Begins old (record t { queue = c ∷ t.queue }) [] → Begins old t (c ∷ [])
+    begins_taken old t c g = record {
+      head = g.head;
+      turns = g.turns;
+      told_by = g.told_by;
+      net = g.net;
+      rows = g.rows;
+      queue = g.queue;
+      used = record { rows_used = g.used.rows_used; frames = g.used.frames; bytes = g.used.bytes; slack = g.used.slack; turns = g.used.turns };
+    }
+
+pub has_come_home : (v : BookView) (t : TrayView) (new : BookView) (binding : ℕ) (l : ListView) (w : PassWay) (to : Target) (status : ListStatus) → IsDoneFor v binding → v.tray ≡ record t { queue = a_list l w to ∷ t.queue } → w ≡ way.Done status
+    → ComesHome binding l status (slice_index_or v.held.protocols binding no_protocol) t (slice_index_or v.held.protocol_pools binding no_pool) (slice_index_or new.held.protocols binding no_protocol) new.tray (slice_index_or new.held.protocol_pools binding no_pool)
+    → new.held.protocols ≡ slice_set v.held.protocols binding (slice_index_or new.held.protocols binding no_protocol)
+    → new.held.protocol_pools ≡ slice_set v.held.protocol_pools binding (slice_index_or new.held.protocol_pools binding no_pool)
+    → new.held ≡ record v.held { protocols = new.held.protocols; protocol_pools = new.held.protocol_pools } → HasComeHome binding v new
+has_come_home v t new binding l w to status d e is home protocols pools same = record {
+  list = l;
+  status = status;
+  taken = t;
+  takes = taken_so v t binding l w to status d e is;
+  home = home;
+  held = same ∙ ap (λ ps. record v.held { protocols = ps; protocol_pools = new.held.protocol_pools }) protocols
+      ∙ ap (λ ps. record v.held { protocols = slice_set v.held.protocols binding (slice_index_or new.held.protocols binding no_protocol); protocol_pools = ps }) pools;
+}
+
+-- a count that is far from its end
+pub count_at : (p s : ProtocolState) (served : Served) → p ≡ s → served ≡ s.did.served → served.send_complete < 2 ^ 60 → CanCount called.SendComplete p.did.served
+count_at p s served same is low =
+    let here : p.did.served.send_complete ≡ served.send_complete = ap (λ (x : ProtocolState). x.did.served.send_complete) same ∙ ap (λ (x : Served). x.send_complete) (sym is) in
+    omega (arith, here, low)
+
+pub begins_with : (v : BookView) (binding : ℕ) → IsDoneFor v binding → BeginsWithList v.tray.queue
+begins_with v binding d = record { list = d.first.list; way = way.Done d.status; to = Module (Binding binding); rest = d.first.rest; is = d.first.first }

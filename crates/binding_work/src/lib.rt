@@ -4,4 +4,5 @@
 pub mod homes;
 pub mod sends;
 
+pub use crate::homes::work_owner;
 pub use crate::sends::send;

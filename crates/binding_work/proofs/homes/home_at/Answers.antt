@@ -12,5 +12,6 @@ returns-clause-home g c =
       old_at g.P.ProtocolCalls.state c.args.protocols.now.items c.args.binding no_protocol c.index_mut.result.now c.requires.protocols c.index_mut.ensures.value,
       new_at g.P.ProtocolCalls.state c.args.protocols.now.items c.args.binding no_protocol c.home_to.new.protocol c.requires.protocols,
       place_is c.args.pools.now.items c.args.binding no_pool c.index_mut-2.result.now c.requires.pools c.index_mut-2.ensures.value,
-      get_or-set_same c.args.pools.now.items c.args.binding c.home_to.new.pool no_pool c.requires.pools)
+      get_or-set_same c.args.pools.now.items c.args.binding c.home_to.new.pool no_pool c.requires.pools,
+    )
     c.home_to.ensures

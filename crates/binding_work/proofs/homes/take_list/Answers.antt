@@ -1,4 +1,4 @@
-use Rattle.std.proofs.Common.{◌≡◌, ◌∷◌, ap, ◌∙◌}
+use Rattle.std.proofs.Common.{◌∷◌, ap, ◌∙◌}
 use Rattle.agenda_items.specs.Views.{kept_as}
 use Rattle.driver_tray.specs.Tray.{TrayView}
 use Rattle.binding_work.proofs.Firsts.{no_status, no_answer}
