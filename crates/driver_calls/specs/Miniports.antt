@@ -62,6 +62,8 @@ pub record MayTransmit (s : MiniportState) (t : TrayView) : Type 0 where
   pub frame_room : 8 ≤ t.room.frames
   pub byte_room : 8 * 1518 ≤ t.room.bytes
   pub low : t.net.next.list < 2 ^ 60
+  pub sent : t.net.port.sent < 2 ^ 60
+  pub received : t.net.port.received < 2 ^ 60
 
 -- a loop adapter indicates what it transmits, while the stack runs and its pool isn't full
 abbrev pub IsLooping : MiniportState → Bool → TrayView → Type 0

@@ -34,6 +34,7 @@ pub record MayReceive (what : Called) (s : ProtocolState) (l : ListView) (span :
   pub rows : 3 ≤ t.room.rows
   pub slack : 2 ≤ t.slack
   pub low : t.net.next.list < 2 ^ 60
+  pub received : t.net.port.received < 2 ^ 60
 
 -- an echo protocol sends the same frames, where its pool isn't full
 pub data Echoes (s : ProtocolState) (l : ListView) (t t' : TrayView) : Type 0 where

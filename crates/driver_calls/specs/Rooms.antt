@@ -26,6 +26,7 @@ pub record HasRoomForNew (many ways : ℕ) (t : TrayView) : Type 0 where
   pub frames : 8 ≤ t.room.frames
   pub bytes : 8 * 1518 ≤ t.room.bytes
   pub low : t.net.next.list < 2 ^ 60
+  pub received : t.net.port.received < 2 ^ 60
 
 -- for two rows of each list that a module keeps
 abbrev pub HasRoomForAll : List ListView → TrayView → Type 0

@@ -1,16 +1,21 @@
 -- One more row of the turn under way.
-use Rattle.std.proofs.Common.{◌≡◌, ℕ, ◌+◌, ◌-◌, ◌*◌, ◌≤◌, List, [], ◌∷◌, ◌++◌, Option, None, Some, All, length, sum_by, refl, sym, ap, ◌∙◌, arith}
+use Rattle.std.proofs.Common.{◌≡◌, ℕ, ◌+◌, ◌-◌, ◌*◌, ◌≤◌, List, [], ◌∷◌, ◌++◌, Option, None, Some, All, length, sum_by, take, drop, min, refl, sym, ap, ◌∙◌, arith}
+use Rattle.std.proofs.lemmas.List.{length-take, length-drop}
 use Rattle.std.proofs.lemmas.List.Elements.{All-head, All-tail}
 use Rattle.std.proofs.lemmas.List.Sums.{sum_by-cons}
 use Rattle.ndis_base.specs.declared.ModuleId.{ModuleId}
+use Rattle.ndis_base.specs.declared.ListNo.{ListNo}
 use Rattle.journal_types.specs.declared.StackHead.{StackHead}
 use Rattle.journal_types.specs.declared.Event.{Event}
 use Rattle.journal_types.specs.declared.Reply.{Reply}
-use Rattle.journal_types.specs.declared.PhaseOf.TheVariants as of
 use Rattle.journal_types.specs.declared.Row.{Row}
+use Rattle.journal_types.specs.declared.Row.TheVariants as row
 use Rattle.journal_types.specs.declared.Turn.{Turn}
+use Rattle.buffer_pools.specs.declared.label.Label.{Label}
 use Rattle.buffer_pools.specs.Views.{PoolView, Fits}
 use Rattle.agenda_items.specs.declared.Carried.{Carried}
+use Rattle.frame_arena.specs.declared.FrameSpan.{FrameSpan}
+use Rattle.frame_arena.specs.Spans.{frames_at, SpanWithin}
 use Rattle.flat_journal.specs.declared.types.FlatRow.{FlatRow}
 use Rattle.flat_journal.specs.declared.types.FlatRow.TheVariants as flat_row
 use Rattle.flat_journal.specs.declared.types.Room.{Room}
@@ -20,38 +25,34 @@ use Rattle.flat_journal.specs.Rooms.{Uses, no_room}
 use Rattle.flat_journal.specs.Shown.{row_of}
 use Rattle.flat_journal.proofs.Grown.{grown_by_frames, event_of_same, reply_of_same, event_within_grown, reply_within_grown}
 use Rattle.stack_rules.specs.Net.{Net, start, told, after, after_rows, after_turn, after_turns, seen}
+use Rattle.stack_ledger.specs.Bare.{LedgerView, bare, with_net, with_issued, with_wired}
 use Rattle.driver_tray.specs.declared.telling.Telling.{Telling}
-use Rattle.driver_tray.specs.Tray.{IsSteady, begun_by, ended, written, framed}
+use Rattle.driver_tray.specs.Tray.{IsSteady, begun_by, ended, written, framed, issue_row}
 use Rattle.driver_tray.specs.Inside.{told_of, ToldWithin, net_of, shown_of}
 
 pub after_rows-append : (net : Net) (rows : List Row) (r : Row) → after_rows net (rows ++ r ∷ []) ≡ after (after_rows net rows) r
 after_rows-append net [] r = refl
 after_rows-append net (x ∷ xs) r = after_rows-append (after net x) xs r
 
--- a row that leaves the modules and the number of the next list
-pub record Leaves (net : Net) (r : Row) : Type 0 where
-  pub modules : (after net r).modules ≡ net.modules
-  pub next : (after net r).next.list ≡ net.next.list
-
-pub steady : (net : Net) (p : Payloads) (r : FlatRow) → IsSteady r → Leaves net (row_of p r)
+-- a row that leaves what a ledger has
+pub steady : (net : Net) (p : Payloads) (r : FlatRow) → IsSteady r → bare (after net (row_of p r)) ≡ bare net
 steady net p (flat_row.Issue list owner config direction cancel origin frames) s = absurd s
-steady net p (flat_row.Give list m handler) s = record { modules = refl; next = refl }
-steady net p (flat_row.Pass list way to) s = record { modules = refl; next = refl }
-steady net p (flat_row.Keep list m) s = record { modules = refl; next = refl }
-steady net p (flat_row.TurnBack list m status) s = record { modules = refl; next = refl }
-steady net p (flat_row.Home list owner status) s = record { modules = refl; next = refl }
-steady net p (flat_row.Wire list frames) s = record { modules = refl; next = refl }
-steady net p (flat_row.Deliver list binding how frames) s = record { modules = refl; next = refl }
-steady net p (flat_row.Phase (of.Module m state)) s = absurd s
-steady net p (flat_row.Phase (of.Stack phase)) s = record { modules = refl; next = refl }
+steady net p (flat_row.Give list m handler) s = refl
+steady net p (flat_row.Pass list way to) s = refl
+steady net p (flat_row.Keep list m) s = refl
+steady net p (flat_row.TurnBack list m status) s = refl
+steady net p (flat_row.Home list owner status) s = refl
+steady net p (flat_row.Wire list frames) s = absurd s
+steady net p (flat_row.Deliver list binding how frames) s = refl
+steady net p (flat_row.Phase of) s = absurd s
 steady net p (flat_row.Config config filters) s = absurd s
-steady net p (flat_row.OidIssue request parent binding kind code value) s = record { modules = refl; next = refl }
-steady net p (flat_row.OidGive request m) s = record { modules = refl; next = refl }
-steady net p (flat_row.OidDone request status value) s = record { modules = refl; next = refl }
-steady net p (flat_row.Status number name to) s = record { modules = refl; next = refl }
-steady net p (flat_row.Seen number m) s = record { modules = refl; next = refl }
-steady net p (flat_row.CrossOut message way frames) s = record { modules = refl; next = refl }
-steady net p (flat_row.CrossIn stack message way frames) s = record { modules = refl; next = refl }
+steady net p (flat_row.OidIssue request parent binding kind code value) s = absurd s
+steady net p (flat_row.OidGive request m) s = absurd s
+steady net p (flat_row.OidDone request status value) s = absurd s
+steady net p (flat_row.Status number name to) s = absurd s
+steady net p (flat_row.Seen number m) s = refl
+steady net p (flat_row.CrossOut message way frames) s = absurd s
+steady net p (flat_row.CrossIn stack message way frames) s = refl
 
 -- what is left of a room
 same_room : (left : Room) (turns rows frames bytes filters setups : ℕ) → left.turns ≡ turns → left.rows ≡ rows → left.frames ≡ frames → left.bytes ≡ bytes → left.filters ≡ filters → left.setups ≡ setups
@@ -170,3 +171,27 @@ sum_short (f ∷ fs) short =
 
 pub fits_bytes : (frames : List (List ℕ)) → Fits frames 1518 → sum_by length frames ≤ 8 * 1518
 fits_bytes frames fits = omega (arith, fits.few, sum_short frames fits.short)
+
+-- a span has as many frames as it says
+pub span_count : (frames : List (List ℕ)) (span : FrameSpan) → SpanWithin frames span → length (frames_at frames span) ≡ span.count
+span_count frames span within =
+    let taken : length (frames_at frames span) ≡ min span.count (length (drop span.first frames)) = length-take span.count (drop span.first frames) in
+    let left : length (drop span.first frames) ≡ length frames - span.first = length-drop span.first frames in
+    omega (arith, taken, left, within)
+
+-- what a ledger has after a list was issued, and after frames went onto the wire
+pub ledger_issued : (l k : LedgerView) (net net' : Net) (label : Label) (frames : List (List ℕ)) (many : ℕ) → l.net ≡ bare net → k ≡ with_net l (with_issued label.owner many l.net) → length frames ≡ many
+    → net' ≡ after net (issue_row label frames) → k.net ≡ bare net'
+ledger_issued l k net net' label frames many before now count e =
+    ap (λ v. v.net) now
+    ∙ ap (with_issued label.owner many) before
+    ∙ ap (λ n. with_issued label.owner n (bare net)) (sym count)
+    ∙ sym (ap bare e)
+
+pub ledger_wired : (l k : LedgerView) (net net' : Net) (list : ListNo) (frames : List (List ℕ)) (many : ℕ) → l.net ≡ bare net → k ≡ with_net l (with_wired many l.net) → length frames ≡ many
+    → net' ≡ after net (row.Wire list frames) → k.net ≡ bare net'
+ledger_wired l k net net' list frames many before now count e =
+    ap (λ v. v.net) now
+    ∙ ap (with_wired many) before
+    ∙ ap (λ n. with_wired n (bare net)) (sym count)
+    ∙ sym (ap bare e)

@@ -11,6 +11,7 @@ use Rattle.flat_journal.specs.Payloads.{Payloads}
 use Rattle.flat_journal.specs.Shown.{event_of, reply_of}
 use Rattle.flat_journal.specs.Within.{EventWithin, ReplyWithin}
 use Rattle.stack_rules.specs.Net.{Net, seen, after_rows}
+use Rattle.stack_ledger.specs.Bare.{bare}
 use Rattle.driver_tray.specs.declared.telling.Telling.{Telling}
 use Rattle.driver_tray.specs.declared.tray.Tray.TheInside.{Inside}
 use Rattle.driver_tray.specs.Tray.{TrayView, begun_by}
@@ -50,6 +51,5 @@ tray_view t = shown_of t.journal t.told t.queue.items t.slack t.caller t.pool
 -- there is room for what was promised, and what is asked at run time is that of the state
 pub record IsTray (t : Inside) : Type 0 where
   pub queue : deque_len t.queue + t.slack ≤ deque_capacity t.queue
-  pub modules : t.modules ≡ (net_of t.journal t.told).modules
-  pub next : t.next ≡ (net_of t.journal t.told).next.list
+  pub ledger : t.ledger.net ≡ bare (net_of t.journal t.told)
   pub within : ToldWithin t.journal.payloads t.told

@@ -1,6 +1,6 @@
 -- The tray: the journal and the turn under way, the state after its rows, what is on its way, and the pool of the
 -- module that is called. A driver's calls into the stack are written into it.
-use Rattle.std.specs.Prelude.{ℕ, ◌≡◌, ◌+◌, ◌-◌, List, [], ◌∷◌, ◌++◌, Option, Some, None, length, sum_by}
+use Rattle.std.specs.Prelude.{ℕ, ◌≡◌, ◌+◌, ◌-◌, ◌<◌, ◌^◌, List, [], ◌∷◌, ◌++◌, Option, Some, None, length, sum_by}
 use Rattle.ndis_base.specs.declared.ModuleId.{ModuleId}
 use Rattle.ndis_base.specs.declared.ListNo.{ListNo}
 use Rattle.ndis_base.specs.declared.ListStatus.{ListStatus}
@@ -12,7 +12,6 @@ use Rattle.journal_types.specs.declared.Event.{Event}
 use Rattle.journal_types.specs.declared.Reply.{Reply}
 use Rattle.journal_types.specs.declared.Handler.{Handler}
 use Rattle.journal_types.specs.declared.How.{How}
-use Rattle.journal_types.specs.declared.PhaseOf.TheVariants as of
 use Rattle.journal_types.specs.declared.Row.{Row}
 use Rattle.journal_types.specs.declared.Row.TheVariants as row
 use Rattle.journal_types.specs.declared.Turn.{Turn}
@@ -73,13 +72,23 @@ turn_of t who e r = record { who = who; event = e; reply = r; rows = t.rows }
 abbrev pub ended : TrayView → Turn → TrayView
 ended t turn = record t { turns = t.turns ++ turn ∷ []; told_by = None; rows = []; room = record t.room { turns = t.room.turns - 1 } }
 
--- the rows that change neither the modules nor the number of the next list
+-- the rows that change only lists, statuses, answers and messages
 abbrev pub IsSteady : FlatRow → Type 0
-IsSteady (flat_row.Issue list owner config direction cancel origin frames) = ⊥
-IsSteady (flat_row.Phase (of.Module m s)) = ⊥
-IsSteady (flat_row.Phase (of.Stack p)) = Unit {0}
-IsSteady (flat_row.Config config filters) = ⊥
-IsSteady _ = Unit {0}
+IsSteady (flat_row.Give list m handler) = Unit {0}
+IsSteady (flat_row.Pass list way to) = Unit {0}
+IsSteady (flat_row.Keep list m) = Unit {0}
+IsSteady (flat_row.TurnBack list m status) = Unit {0}
+IsSteady (flat_row.Home list owner status) = Unit {0}
+IsSteady (flat_row.Deliver list binding how frames) = Unit {0}
+IsSteady (flat_row.Seen number m) = Unit {0}
+IsSteady (flat_row.CrossIn stack message way frames) = Unit {0}
+IsSteady _ = ⊥
+
+-- the counts are far from the largest number
+pub record IsLow (net : Net) : Type 0 where
+  pub list : net.next.list < 2 ^ 60
+  pub sent : net.port.sent < 2 ^ 60
+  pub received : net.port.received < 2 ^ 60
 
 -- one more row
 abbrev pub written : TrayView → Row → TrayView

@@ -1,19 +1,18 @@
 //! What a driver does with a list: each function writes its rows and takes no memory.
-ghost use Rattle.std.specs.Prelude.{◌≡◌, ℕ, ◌*◌, ◌≤◌, ◌<◌, ◌^◌, None, IfOk, OnOk, OnErr, IsErr, ◌↔◌, length, sum_by};
+ghost use Rattle.std.specs.Prelude.{◌≡◌, ℕ, ◌*◌, ◌+◌, ◌≤◌, ◌<◌, ◌^◌, None, IfOk, OnOk, OnErr, IsErr, ◌↔◌, length, sum_by};
 ghost use Rattle.buffer_pools.specs.Views.{Fits, IsOf, live_count};
 ghost use Rattle.frame_arena.specs.Spans.{frames_at, SpanWithin};
 ghost use Rattle.stack_rules.specs.Places.{position};
 ghost use Rattle.journal_types.specs.declared.Row.TheVariants as row;
 ghost use Rattle.stack_rules.specs.Outcome.{list_no};
-ghost use Rattle.driver_tray.specs.Tray.{given, passed_on, passed_back, turned_back, noted, wired, delivered, onward_row, homeward_row, root_label, Starts, Clones, Spends};
+ghost use Rattle.driver_tray.specs.Tray.{given, passed_on, passed_back, turned_back, noted, written, wired, delivered, onward_row, homeward_row, root_label, Starts, Clones, Spends};
 
 use crate::tray::Tray;
 use buffer_pools::{BufferList, Label, NoList};
 use flat_journal::FlatRow;
 use frame_arena::FrameSpan;
 use journal_types::{Handler, How, PassWay, Target};
-use ndis_base::{ConfigNo, Direction, Frame, ListNo, ListStatus, Origin};
-use next_targets::{next_back, next_done, next_down, next_up, position};
+use ndis_base::{Direction, Frame, ListNo, ListStatus, Origin};
 
 impl Tray {
     /// Gives a list to the module that is called.
@@ -31,7 +30,7 @@ impl Tray {
     fn from(&self) -> usize
         ensures { result ≡ position self.now.net.modules.order self.now.caller }
     {
-        position(self.modules.order(), self.caller)
+        self.ledger.position(self.caller)
     }
 
     fn onward(&self, list: &BufferList) -> (PassWay, Target)
@@ -39,8 +38,8 @@ impl Tray {
     {
         let from = self.from();
         match list.direction() {
-            Direction::Down => (PassWay::Down, next_down(&self.modules, from)),
-            Direction::Up | Direction::Lent => (PassWay::Up, next_up(&self.modules, from)),
+            Direction::Down => (PassWay::Down, self.ledger.next_down(from)),
+            Direction::Up | Direction::Lent => (PassWay::Up, self.ledger.next_up(from)),
         }
     }
 
@@ -51,11 +50,11 @@ impl Tray {
         match list.direction() {
             Direction::Down => (
                 PassWay::Done(status),
-                next_done(&self.modules, from, list.owner()),
+                self.ledger.next_done(from, list.owner()),
             ),
             Direction::Up | Direction::Lent => (
                 PassWay::Back(status),
-                next_back(&self.modules, from, list.owner()),
+                self.ledger.next_back(from, list.owner()),
             ),
         }
     }
@@ -105,20 +104,28 @@ impl Tray {
         });
     }
 
+    fn write_wire(&mut self, list: ListNo, frames: FrameSpan)
+        requires within { SpanWithin self.old.payloads.frames frames }
+        requires low { self.old.net.port.sent + frames.count < 2 ^ 64 }
+        requires room { 1 ≤ self.old.room.rows }
+        ensures { self.new ≡ written self.old (row.Wire list (frames_at self.old.payloads.frames frames)) }
+    {
+        self.journal.write_row(FlatRow::Wire { list, frames });
+        self.ledger.wire(frames.count);
+    }
+
     /// Puts a list's frames onto the wire, and gives where the journal has them.
     pub fn wire(&mut self, list: &BufferList) -> FrameSpan
         requires frame_room { length list.now.frames ≤ self.old.room.frames }
         requires byte_room { sum_by length list.now.frames ≤ self.old.room.bytes }
+        requires low { self.old.net.port.sent + length list.now.frames < 2 ^ 64 }
         requires room { 1 ≤ self.old.room.rows }
         ensures tray { self.new ≡ wired self.old list.now }
         ensures within { SpanWithin self.new.payloads.frames result }
         ensures shown { frames_at self.new.payloads.frames result ≡ list.now.frames }
     {
         let frames = self.hold_list(list);
-        self.write(FlatRow::Wire {
-            list: list.number(),
-            frames,
-        });
+        self.write_wire(list.number(), frames);
         frames
     }
 
@@ -145,9 +152,9 @@ impl Tray {
         ensures { result ≡ root_label self.now direction cancel }
     {
         Label {
-            number: ListNo(self.next),
+            number: self.ledger.next_list(),
             owner: self.caller,
-            config: ConfigNo(self.modules.config()),
+            config: self.ledger.config(),
             direction,
             cancel,
             origin: Origin::Root,
@@ -169,6 +176,7 @@ impl Tray {
         requires room { 2 ≤ self.old.room.rows }
         requires slack { 1 ≤ self.old.slack }
         requires low { self.old.net.next.list < 2 ^ 60 }
+        requires received { self.old.net.port.received < 2 ^ 60 }
         ensures starts { OnOk result (Starts self.old direction cancel made.now self.new) }
         ensures number { IfOk result (λ n. n ≡ list_no self.old.net.next.list) }
         ensures no_list { IsErr result ↔ (live_count self.old.pool ≡ self.old.pool.size) }
@@ -195,6 +203,7 @@ impl Tray {
         requires room { 2 ≤ self.old.room.rows }
         requires slack { 1 ≤ self.old.slack }
         requires low { self.old.net.next.list < 2 ^ 60 }
+        requires received { self.old.net.port.received < 2 ^ 60 }
         ensures starts { OnOk result (Starts self.old direction None from.now.frames self.new) }
         ensures number { IfOk result (λ n. n ≡ list_no self.old.net.next.list) }
         ensures no_list { IsErr result ↔ (live_count self.old.pool ≡ self.old.pool.size) }
@@ -231,14 +240,15 @@ impl Tray {
         requires byte_room { 8 * 1518 ≤ self.old.room.bytes }
         requires slack { 1 ≤ self.old.slack }
         requires low { self.old.net.next.list < 2 ^ 60 }
+        requires received { self.old.net.port.received < 2 ^ 60 }
         ensures clones { OnOk result (Clones self.old list.now made.now self.new) }
         ensures no_list { IsErr result ↔ (live_count self.old.pool ≡ self.old.pool.size) }
         ensures unchanged { OnErr result (self.new ≡ self.old) }
     {
         let label = Label {
-            number: ListNo(self.next),
+            number: self.ledger.next_list(),
             owner: self.caller,
-            config: ConfigNo(self.modules.config()),
+            config: self.ledger.config(),
             direction: list.direction(),
             cancel: list.cancel(),
             origin: Origin::Clone(list.number()),

@@ -1,5 +1,5 @@
 //! The tray, and the rows that are written into it.
-ghost use Rattle.std.specs.Prelude.{◌≡◌, ℕ, ◌*◌, ◌+◌, ◌-◌, ◌≤◌, ◌<◌, ◌^◌, ◌∷◌, ◌++◌, [], None, Some, IfOk, OnOk, length, sum_by, List};
+ghost use Rattle.std.specs.Prelude.{◌≡◌, ℕ, ◌*◌, ◌+◌, ◌-◌, ◌≤◌, ◌<◌, ◌^◌, ◌∷◌, ◌++◌, [], None, Some, IfOk, OnOk, false, length, sum_by, List};
 ghost use Rattle.agenda_items.specs.Views.{kept_as};
 ghost use Rattle.agenda_items.specs.declared.Item.{Item};
 ghost use Rattle.agenda_items.specs.declared.Carried.TheVariants as carried;
@@ -9,7 +9,7 @@ ghost use Rattle.frame_arena.specs.Spans.{frames_at, SpanWithin};
 ghost use Rattle.flat_journal.specs.Rooms.{Covers, Uses, no_room};
 ghost use Rattle.flat_journal.specs.Shown.{row_of};
 ghost use Rattle.flat_journal.specs.Within.{RowWithin};
-ghost use Rattle.driver_tray.specs.Tray.{TrayView, IsNew, written, framed, issued, passed, issue_row, IsSteady};
+ghost use Rattle.driver_tray.specs.Tray.{TrayView, IsNew, written, framed, issued, passed, issue_row, IsSteady, IsLow};
 
 use crate::telling::Telling;
 use agenda_items::{Carried, Item, dequeue, enqueue};
@@ -18,8 +18,7 @@ use flat_journal::{FlatJournal, FlatRow, Room};
 use frame_arena::FrameSpan;
 use journal_types::{PassWay, StackHead, Target};
 use ndis_base::{Frame, ModuleId, OutOfMemory};
-use plain_state::PlainModules;
-use plain_state::modules::first_modules;
+use stack_ledger::StackLedger;
 use std::alloc::Global;
 use std::collections::VecDeque;
 use std::marker::Model;
@@ -32,8 +31,7 @@ const FAR: u64 = 1 << 60;
 pub struct Tray {
     pub(crate) journal: FlatJournal,
     pub(crate) told: Option<Telling>,
-    pub(crate) modules: PlainModules,
-    pub(crate) next: u64,
+    pub(crate) ledger: StackLedger,
     queue: VecDeque<Carried>,
     slack: usize,
     pub(crate) caller: ModuleId,
@@ -70,18 +68,23 @@ fn push_list(journal: &mut FlatJournal, list: &BufferList) -> FrameSpan
     journal.span_from(first)
 }
 
+fn is_far(ledger: &StackLedger) -> bool
+    ensures { result ≡ false → IsLow ledger.now.net }
+{
+    ledger.next_list().0 >= FAR || ledger.sent() >= FAR || ledger.received() >= FAR
+}
+
 impl Tray {
     /// The tray of a stack without turns.
     pub fn make(alloc: Global, head: StackHead) -> Result<Tray, OutOfMemory>
         ensures { IfOk result (λ t. IsNew head t) }
     {
-        let modules = first_modules(alloc, head.bindings.items().len())?;
+        let ledger = StackLedger::make(alloc, &head)?;
         let pool = ListPool::make(alloc, 0, 0)?;
         Ok(Tray {
             journal: FlatJournal::make(alloc, head),
             told: None,
-            modules,
-            next: 1,
+            ledger,
             queue: VecDeque::new(alloc),
             slack: 0,
             caller: ModuleId::Miniport,
@@ -90,16 +93,16 @@ impl Tray {
     }
 
     /// Makes room in the journal, and for so many more things on their way. It also answers want of
-    /// memory where the numbers of lists have come to 2 to the power of 60, which no run can reach.
+    /// memory where a count has come to 2 to the power of 60, which no run can reach.
     pub fn make_room(&mut self, room: Room, things: usize) -> Result<(), OutOfMemory>
         ensures same { self.new ≡ record self.old { room = self.new.room; slack = self.new.slack } }
         ensures room { OnOk result (Covers self.new.room room) }
         ensures slack { OnOk result (things ≤ self.new.slack) }
-        ensures low { OnOk result (self.new.net.next.list < 2 ^ 60) }
+        ensures low { OnOk result (IsLow self.new.net) }
         ensures room_kept { Covers self.new.room self.old.room }
         ensures slack_kept { self.old.slack ≤ self.new.slack }
     {
-        if self.next >= FAR {
+        if is_far(&self.ledger) {
             return Err(OutOfMemory);
         }
         self.journal.make_room(room)?;
@@ -110,7 +113,7 @@ impl Tray {
         Ok(())
     }
 
-    /// Writes a row that changes neither the modules nor the number of the next list.
+    /// Writes a row that changes only lists, statuses, answers and messages.
     pub fn write(&mut self, row: FlatRow)
         requires steady { IsSteady row }
         requires within { RowWithin self.old.payloads row }
@@ -198,6 +201,7 @@ impl Tray {
     pub fn issue_held(&mut self, label: Label, span: FrameSpan)
         requires number { label.number.0 ≡ self.old.net.next.list }
         requires low { self.old.net.next.list < 2 ^ 60 }
+        requires received { self.old.net.port.received + span.count < 2 ^ 64 }
         requires within { SpanWithin self.old.payloads.frames span }
         requires room { 1 ≤ self.old.room.rows }
         ensures { self.new ≡ written self.old (issue_row label (frames_at self.old.payloads.frames span)) }
@@ -211,13 +215,14 @@ impl Tray {
             origin: label.origin,
             frames: span,
         });
-        self.next += 1;
+        self.ledger.issue(label.owner, span.count);
     }
 
     /// Writes the Issue row of a list.
     pub fn issue(&mut self, label: Label, frames: &[Frame])
         requires number { label.number.0 ≡ self.old.net.next.list }
         requires low { self.old.net.next.list < 2 ^ 60 }
+        requires received { self.old.net.port.received < 2 ^ 60 }
         requires fits { Fits frames.now 1518 }
         requires room { 1 ≤ self.old.room.rows }
         requires frame_room { 8 ≤ self.old.room.frames }

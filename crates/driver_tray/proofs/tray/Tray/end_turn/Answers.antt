@@ -3,6 +3,7 @@ use Rattle.journal_types.specs.declared.Turn.{Turn}
 use Rattle.flat_journal.specs.Flat.{FlatView}
 use Rattle.flat_journal.specs.Shown.{event_of, reply_of}
 use Rattle.stack_rules.specs.Net.{Net, seen, told}
+use Rattle.stack_ledger.specs.Bare.{bare}
 use Rattle.driver_tray.specs.Tray.{TrayView, begun_by, turn_of, ended}
 use Rattle.driver_tray.specs.Inside.{net_of, told_of}
 use Rattle.driver_tray.proofs.Rows.{turn_more, journal_ended, net_ended, shown_ended}
@@ -26,8 +27,7 @@ net_is c = ap (λ (v : FlatView). net_of v None) (journal_is c) ∙ net_ended c.
 pub invariant_of-self : goal.invariant_of-self
 invariant_of-self c = record {
   queue = c.self.invariant.queue;
-  modules = c.self.invariant.modules ∙ sym (ap (λ (n : Net). n.modules) (net_is c));
-  next = c.self.invariant.next ∙ sym (ap (λ (n : Net). n.next.list) (net_is c));
+  ledger = c.self.invariant.ledger ∙ sym (ap bare (net_is c));
   within = tt;
 }
 

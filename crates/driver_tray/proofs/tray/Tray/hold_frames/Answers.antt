@@ -1,6 +1,7 @@
 use Rattle.std.proofs.Common.{◌≡◌, sym, ap, ◌∙◌, subst}
 use Rattle.flat_journal.specs.Flat.{FlatView}
 use Rattle.stack_rules.specs.Net.{Net}
+use Rattle.stack_ledger.specs.Bare.{bare}
 use Rattle.driver_tray.specs.Tray.{TrayView, framed}
 use Rattle.driver_tray.specs.Inside.{net_of, shown_of, ToldWithin}
 use Rattle.driver_tray.proofs.Rows.{frames_more, journal_framed, net_framed, within_framed, shown_framed}
@@ -18,8 +19,7 @@ net_is c =
 pub invariant_of-self : goal.invariant_of-self
 invariant_of-self c = record {
   queue = c.self.invariant.queue;
-  modules = c.self.invariant.modules ∙ sym (ap (λ (n : Net). n.modules) (net_is c));
-  next = c.self.invariant.next ∙ sym (ap (λ (n : Net). n.next.list) (net_is c));
+  ledger = c.self.invariant.ledger ∙ sym (ap bare (net_is c));
   within = subst (λ (v : FlatView). ToldWithin v.payloads c.self.inside.told) (sym (journal_is c)) (within_framed c.self.inside.journal c.self.inside.told c.args.frames.now c.self.invariant.within);
 }
 

@@ -4,9 +4,10 @@ use Rattle.flat_journal.specs.Payloads.{Payloads}
 use Rattle.flat_journal.specs.Shown.{row_of}
 use Rattle.stack_rules.specs.Net.{Net, after}
 use Rattle.flat_journal.specs.Flat.{FlatView}
+use Rattle.stack_ledger.specs.Bare.{bare}
 use Rattle.driver_tray.specs.Tray.{TrayView, written}
 use Rattle.driver_tray.specs.Inside.{net_of, ToldWithin}
-use Rattle.driver_tray.proofs.Rows.{Leaves, steady, row_more, journal_written, net_written, shown_written}
+use Rattle.driver_tray.proofs.Rows.{steady, row_more, journal_written, net_written, shown_written}
 use Rattle.driver_tray.proofs.tray.Tray.write.Goals as goal
 
 abbrev row_now : goal.After-write_row → Row
@@ -19,12 +20,10 @@ journal_is c =
 pub invariant_of-self : goal.invariant_of-self
 invariant_of-self c =
     let net = net_of c.self.inside.journal c.self.inside.told in
-    let l : Leaves net (row_now c) = steady net c.self.inside.journal.payloads c.args.row c.requires.steady in
     let e : net_of c.write_row.new.self c.self.inside.told ≡ after net (row_now c) = ap (λ (v : FlatView). net_of v c.self.inside.told) (journal_is c) ∙ net_written c.self.inside.journal c.self.inside.told (row_now c) in
     record {
       queue = c.self.invariant.queue;
-      modules = c.self.invariant.modules ∙ sym (ap (λ (n : Net). n.modules) e ∙ l.modules);
-      next = c.self.invariant.next ∙ sym (ap (λ (n : Net). n.next.list) e ∙ l.next);
+      ledger = c.self.invariant.ledger ∙ sym (ap bare e ∙ steady net c.self.inside.journal.payloads c.args.row c.requires.steady);
       within = subst (λ (p : Payloads). ToldWithin p c.self.inside.told) (sym c.write_row.ensures.payloads) c.self.invariant.within;
     }
 

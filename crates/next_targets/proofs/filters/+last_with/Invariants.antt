@@ -1,5 +1,0 @@
-use Rattle.std.proofs.Common.{length}
-use Rattle.next_targets.proofs.filters.+last_with.Given as goal
-
-abbrev pub decreases-last_with : goal.decreases-last_with
-decreases-last_with l = length l.filters.now
