@@ -84,6 +84,7 @@ module _ (old : BookView) (l : ListView) (status : ListStatus) (k : IsBook old) 
         call = subst (λ ls. InCall (called_with t old.held.miniport_pool) (hands_of (a_list l (way.Back status) (Module Miniport) ∷ t.queue) old.held []) Miniport (homeward_rows old.tray.net f.x Miniport status) (call Miniport called.Returned) [] left (record { front = []; loose = []; kept = ls })) (sym kept)
             (subst (λ rs. InCall (called_with t old.held.miniport_pool) (hands_of (a_list l (way.Back status) (Module Miniport) ∷ t.queue) old.held []) Miniport rs (call Miniport called.Returned) [] left (record { front = []; loose = []; kept = s.kept }))
             (returned_is old.tray.net f.x l status f.same own no_clone) done);
+        kind = ap (λ (x : MiniportState). x.kind) q.same;
         port = ap (λ (x : MiniportState). x.port) q.same;
         ring = subst (λ ls. length ls ≤ old.tray.net.head.port.ring) (sym kept) k.stands.ring;
         calls_are = (refl, tt);

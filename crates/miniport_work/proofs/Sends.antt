@@ -83,6 +83,7 @@ module _ (old : BookView) (l : ListView) (k : IsBook old) (i : IsIdle old) (f : 
       ∙ queue_is old.tray.net f.x l s.kept f.same (k.stands.agrees.kept_is Miniport) in
       record {
         call = subst (λ rs. InCall (called_with t old.held.miniport_pool) (hands_of (a_list l way.Down (Module Miniport) ∷ t.queue) old.held []) Miniport rs (call Miniport called.Send) [] left (record { front = []; loose = []; kept = s'.kept })) are done;
+        kind = ap (λ (x : MiniportState). x.kind) q.same;
         port = ap (λ (x : MiniportState). x.port) q.same;
         ring = ring_kept by k.stands.ring;
         calls_are = (refl, tt);

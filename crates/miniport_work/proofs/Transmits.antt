@@ -68,12 +68,16 @@ pub record IsDone (old : BookView) (t : TrayView) (result : Option ListNo) (s' :
   pub works : Works old t [] s' left (transmit_outcome old.tray.net).rows [] log
   pub reply : wired_as result ≡ (transmit_outcome old.tray.net).reply
 
-module _ (old : BookView) (t : TrayView) (running : Bool) (k : IsBook old) (g : Begins old.tray t []) (kind : old.held.miniport.kind ≡ old.tray.net.head.kind) (run : running ≡ phase_is_running old.tray.net.phase) where
+module _ (old : BookView) (t : TrayView) (running : Bool) (k : IsBook old) (g : Begins old.tray t []) (run : running ≡ phase_is_running old.tray.net.phase) where
+  kind : old.held.miniport.kind ≡ old.tray.net.head.kind
+  kind = k.stands.miniport_kind
+
   abbrev b : TrayView
   b = called_with t old.held.miniport_pool
 
   still : Works old t [] old.held.miniport b [] [] []
-  still = record { call = begins_call k g; port = refl; ring = k.stands.ring; calls_are = tt; counts = counts_none Miniport old.held.miniport.did }
+  still = record { call = begins_call k g; kind = refl;
+    port = refl; ring = k.stands.ring; calls_are = tt; counts = counts_none Miniport old.held.miniport.did }
 
   quiet : (result : Option ListNo) (s' : MiniportState) (left : TrayView) → first_in_ring old.tray.net ≡ None → result ≡ None → s' ≡ old.held.miniport → left ≡ b → IsDone old t result s' left
   quiet result s' left none nothing same left_is = record {
@@ -111,7 +115,8 @@ module _ (old : BookView) (t : TrayView) (running : Bool) (k : IsBook old) (g : 
         works = subst (λ (q : MiniportState). Works old t [] q left (transmit_outcome old.tray.net).rows [] (l.frames ∷ [])) (sym same)
             (record {
               call = subst (λ rs. InCall b (hands_of t.queue old.held []) Miniport rs [] (l.frames ∷ []) left (record { front = []; loose = []; kept = rest })) are i;
-              port = refl;
+              kind = refl;
+    port = refl;
               ring = omega (arith, low);
               calls_are = tt;
               counts = counts_log Miniport l.frames old.held.miniport.did;

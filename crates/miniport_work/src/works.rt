@@ -67,7 +67,6 @@ pub fn transmit<M: MiniportCalls, P: ProtocolCalls, F: FilterCalls>(
 ) -> Result<Option<ListNo>, OutOfMemory>
     requires book { IsBook (view_of M.state P.state F.state book.old) }
     requires idle { IsIdle (view_of M.state P.state F.state book.old) }
-    requires kind { (view_of M.state P.state F.state book.old).held.miniport.kind ≡ (view_of M.state P.state F.state book.old).tray.net.head.kind }
     requires running { running ≡ phase_is_running (view_of M.state P.state F.state book.old).tray.net.phase }
     ensures did { IfOk result (λ wired. DidEvent (view_of M.state P.state F.state book.old) (view_of M.state P.state F.state book.new) event.Transmit (wired_as wired)) }
     ensures turn { OnOk result (CanEnd (view_of M.state P.state F.state book.new)) }
