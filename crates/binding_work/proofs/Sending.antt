@@ -238,7 +238,7 @@ sent_within (starts s some held) = tt
 sent_within (lacks full tray held) = tt
 
 -- a send while it doesn't run
-not_running : (p : Phase) → p ≢ phase.Running → phase_is_running p ≡ false
+pub not_running : (p : Phase) → p ≢ phase.Running → phase_is_running p ≡ false
 not_running phase.Halted ne = refl
 not_running phase.Paused ne = refl
 not_running phase.Restarting ne = refl

@@ -3,6 +3,8 @@
 
 pub mod homes;
 pub mod sends;
+pub mod ups;
 
 pub use crate::homes::work_owner;
 pub use crate::sends::send;
+pub use crate::ups::{return_untaken, turn_back_paused};
