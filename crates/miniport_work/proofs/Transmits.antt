@@ -76,8 +76,14 @@ module _ (old : BookView) (t : TrayView) (running : Bool) (k : IsBook old) (g : 
   b = called_with t old.held.miniport_pool
 
   still : Works old t [] old.held.miniport b [] [] []
-  still = record { call = begins_call k g; kind = refl;
-    port = refl; ring = k.stands.ring; calls_are = tt; counts = counts_none Miniport old.held.miniport.did }
+  still = record {
+    call = begins_call k g;
+    kind = refl;
+    port = refl;
+    ring = k.stands.ring;
+    calls_are = tt;
+    counts = counts_none Miniport old.held.miniport.did;
+  }
 
   quiet : (result : Option ListNo) (s' : MiniportState) (left : TrayView) → first_in_ring old.tray.net ≡ None → result ≡ None → s' ≡ old.held.miniport → left ≡ b → IsDone old t result s' left
   quiet result s' left none nothing same left_is = record {
@@ -116,7 +122,7 @@ module _ (old : BookView) (t : TrayView) (running : Bool) (k : IsBook old) (g : 
             (record {
               call = subst (λ rs. InCall b (hands_of t.queue old.held []) Miniport rs [] (l.frames ∷ []) left (record { front = []; loose = []; kept = rest })) are i;
               kind = refl;
-    port = refl;
+              port = refl;
               ring = omega (arith, low);
               calls_are = tt;
               counts = counts_log Miniport l.frames old.held.miniport.did;
