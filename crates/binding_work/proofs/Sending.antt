@@ -39,7 +39,7 @@ use Rattle.book_lemmas.specs.Views.{BookView, HeldView, no_pool, held_pool, hand
 use Rattle.book_lemmas.specs.Stands.{IsCarriedSized}
 use Rattle.book_lemmas.proofs.Between.{bindings_count}
 use Rattle.book_lemmas.proofs.Heads.{head_seen}
-use Rattle.driver_tray.specs.Tray.{TrayView, Starts}
+use Rattle.driver_tray.specs.Tray.{TrayView, Starts, IsLow}
 use Rattle.call_lemmas.proofs.Bindings.{in_started, pooled_is_called, pooled_leaves, did_still}
 use Rattle.call_lemmas.proofs.Ends.{enters}
 use Rattle.book_parts.specs.Events.{IsBook, IsIdle, DidEvent, CanEnd}
@@ -138,9 +138,9 @@ pub record IsRoomed (old : TrayView) (t : TrayView) : Type 0 where
   pub turns : 1 ≤ t.room.turns
   pub rows : 2 ≤ t.room.rows
   pub slack : 1 ≤ t.slack
-  pub low : t.net.next.list < 2 ^ 60
+  pub low : IsLow t.net
 
-pub is_roomed : (old t : TrayView) → t ≡ record old { room = t.room; slack = t.slack } → Covers t.room old.room → old.slack ≤ t.slack → 1 ≤ t.room.turns → 2 ≤ t.room.rows → 1 ≤ t.slack → t.net.next.list < 2 ^ 60 → IsRoomed old t
+pub is_roomed : (old t : TrayView) → t ≡ record old { room = t.room; slack = t.slack } → Covers t.room old.room → old.slack ≤ t.slack → 1 ≤ t.room.turns → 2 ≤ t.room.rows → 1 ≤ t.slack → IsLow t.net → IsRoomed old t
 is_roomed old t same kept kept_slack turns rows slack low = record {
   begins = begins_roomed old t same kept kept_slack;
   payloads = ap (λ (x : TrayView). x.payloads) same;

@@ -12,7 +12,7 @@ use Rattle.flat_journal.specs.declared.types.FlatReply.{FlatReply}
 use Rattle.flat_journal.specs.declared.types.FlatReply.TheVariants as flat_reply
 use Rattle.stack_rules.specs.Outcome.{list_no}
 use Rattle.book_lemmas.specs.Views.{BookView, HeldView, no_pool}
-use Rattle.driver_tray.specs.Tray.{TrayView, Starts}
+use Rattle.driver_tray.specs.Tray.{TrayView, IsLow, Starts}
 
 -- the journal has the frames of the new list at a span, the pool's lists have room for them, and there is room in the tray
 pub record MayStart (t : TrayView) (pool : PoolView) (made : List (List ℕ)) (span : FrameSpan) : Type 0 where
@@ -21,7 +21,7 @@ pub record MayStart (t : TrayView) (pool : PoolView) (made : List (List ℕ)) (s
   pub shown : frames_at t.payloads.frames span ≡ made
   pub rows : 2 ≤ t.room.rows
   pub slack : 1 ≤ t.slack
-  pub low : t.net.next.list < 2 ^ 60
+  pub low : IsLow t.net
 
 -- the tray while a module is called, with its pool
 abbrev pub called_with : TrayView → ModuleId → PoolView → TrayView

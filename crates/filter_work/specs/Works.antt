@@ -16,7 +16,7 @@ use Rattle.agenda_items.specs.declared.Carried.{Carried}
 use Rattle.agenda_items.specs.declared.Carried.TheVariants.{List as a_list}
 use Rattle.hand_lemmas.specs.Frames.{AreSized}
 use Rattle.driver_views.specs.States.{FilterState}
-use Rattle.driver_tray.specs.Tray.{TrayView, given}
+use Rattle.driver_tray.specs.Tray.{TrayView, given, IsLow}
 use Rattle.driver_calls.specs.Rooms.{CanCount}
 use Rattle.driver_calls.specs.Filters.{IsHandled}
 use Rattle.book_lemmas.specs.Views.{BookView}
@@ -76,7 +76,7 @@ pub record IsReady (s : FilterState) (t : TrayView) : Type 0 where
   pub frames : 8 ≤ t.room.frames
   pub bytes : 8 * 1518 ≤ t.room.bytes
   pub slack : 1 ≤ t.slack
-  pub low : t.net.next.list < 2 ^ 60
+  pub low : IsLow t.net
 
 -- what the filter does with the list, by the way that it goes
 abbrev pub Takes : PassWay → FilterState → ListView → TrayView → FilterState → TrayView → Type 0

@@ -161,7 +161,9 @@ module _ (old : BookView) (t : TrayView) (running : Bool) (k : IsBook old) (g : 
     slack = r.slack;
     frame_room = r.covers.frames;
     byte_room = r.covers.bytes;
-    low = r.low;
+    low = r.low.list;
+    sent = r.low.sent;
+    received = r.low.received;
   }
 
   pub transmits : (i : IsIdle old) {t' : TrayView} {s s' : MiniportState} {pool' : PoolView} {result : Option ListNo} → s ≡ old.held.miniport → DoesWithPool (λ q left. IsTransmitted s running q result s' left) t old.held.miniport_pool t' pool'

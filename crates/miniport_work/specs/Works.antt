@@ -17,7 +17,7 @@ use Rattle.promise_rules.specs.declared.Called.TheVariants as called
 use Rattle.agenda_items.specs.declared.Carried.{Carried}
 use Rattle.agenda_items.specs.declared.Carried.TheVariants.{List as a_list}
 use Rattle.driver_views.specs.States.{MiniportState}
-use Rattle.driver_tray.specs.Tray.{TrayView}
+use Rattle.driver_tray.specs.Tray.{TrayView, IsLow}
 use Rattle.driver_calls.specs.Rooms.{CanCount, HasRoomFor}
 use Rattle.book_lemmas.specs.Views.{BookView}
 use Rattle.book_parts.specs.Events.{FirstIs}
@@ -58,7 +58,7 @@ pub record IsReady (room : Room) (things : ℕ) (s : MiniportState) (t : TrayVie
   pub returned : CanCount called.Returned s.did.served
   pub covers : Covers t.room room
   pub slack : things ≤ t.slack
-  pub low : t.net.next.list < 2 ^ 60
+  pub low : IsLow t.net
 
 -- the first thing on its way is a list
 pub record StartsWithList (queue : List Carried) : Type 0 where

@@ -1,5 +1,7 @@
 -- Rows that are written one after the other, and what drivers did when they only were set up, paused or halted.
-use Rattle.std.specs.Prelude.{◌≡◌, ℕ, List, [], ◌∷◌, Some, slice_index_or}
+use Rattle.std.specs.Prelude.{◌≡◌, ℕ, zero, suc, ◌+◌, List, [], ◌∷◌, Some, slice_index_or}
+use Rattle.ndis_base.specs.declared.ModuleId.{ModuleId}
+use Rattle.ndis_base.specs.declared.ModuleId.TheVariants.{Binding}
 use Rattle.journal_types.specs.declared.Row.{Row}
 use Rattle.driver_tray.specs.Tray.{TrayView, written}
 use Rattle.book_lemmas.specs.Views.{HeldView, filter_at, no_protocol}
@@ -13,3 +15,8 @@ pub record CountsNothing (old new : HeldView) : Type 0 where
   pub miniport : new.miniport.did ≡ old.miniport.did
   pub protocols : (i : ℕ) → (slice_index_or new.protocols i no_protocol).did ≡ (slice_index_or old.protocols i no_protocol).did
   pub filters : (place : ℕ) → (filter_at new.filters (Some place)).did ≡ (filter_at old.filters (Some place)).did
+
+-- so many bindings, from this one on
+abbrev pub bindings_from : ℕ → ℕ → List ModuleId
+bindings_from b zero = []
+bindings_from b (suc n) = Binding b ∷ bindings_from (b + 1) n
