@@ -1,6 +1,7 @@
 //! The tray into which a driver writes its calls, and which the stack works off afterwards.
 #![tactic(auto)]
 
+pub mod asking;
 pub mod lists;
 pub mod telling;
 pub mod tray;
