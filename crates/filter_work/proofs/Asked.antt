@@ -30,14 +30,16 @@ use Rattle.driver_tray.specs.Tray.{TrayView}
 use Rattle.book_lemmas.specs.Between.{IsBetween}
 use Rattle.book_lemmas.specs.Stands.{Stands, IsSeated, IsPoolOf, IsCarriedSized}
 use Rattle.book_lemmas.specs.Views.{BookView, HeldView, IsPlace, filter_at, pool_at, seat_of, held_pool, hands_of}
-use Rattle.book_lemmas.proofs.Between.{IsAtFilter, GoesDown, not_halted, listed, goes_down}
+use Rattle.book_lemmas.proofs.Between.{IsAtFilter, GoesDown, GoesUp, not_halted, listed, goes_down, goes_up}
 use Rattle.book_lemmas.proofs.Between.GoesDown.{to_filter}
+use Rattle.book_lemmas.proofs.Between.GoesUp.{up_filter}
 use Rattle.call_lemmas.proofs.Homewards.{KeepsOriginal}
 use Rattle.pause_laws.proofs.Works.{each_away}
 use Rattle.place_laws.specs.Kept.{HasOriginal}
 use Rattle.book_parts.specs.Events.{IsBook, IsIdle, FirstIs}
 use Rattle.book_parts.proofs.Ended.{idle_state}
 use Rattle.filter_work.specs.Works.{IsOnward, GoesTo, GoesAs, MayTake, MayWork}
+use Rattle.filter_work.proofs.Ups.{up_is}
 
 pub between : (old : BookView) → IsBook old → IsIdle old → IsBetween old.tray.head old.tray.turns old.tray.net
 between old k i = record { is = idle_state old k i; sound = k.follows.sound; bound = k.bound }
@@ -62,6 +64,9 @@ down_is direction.Lent e = absurd cc
 down_to_filter : (net : Net) (x : LiveList) (f : ℕ) → GoesDown net x (Module (Filter f)) → (is_down x.direction ≡ true) × IsAtFilter net f
 down_to_filter net x f (to_filter g down at) = (down, at)
 
+up_to_filter : (net : Net) (x : LiveList) (f : ℕ) → GoesUp net x (Module (Filter f)) → (is_down x.direction ≡ false) × IsAtFilter net f
+up_to_filter net x f (up_filter g up at) = (up, at)
+
 -- what the laws tell of a list by the way that it goes
 pub record IsOnTrack (net : Net) (by : PassWay) (x : LiveList) (f : ℕ) : Type 0 where
   pub at : IsAtFilter net f
@@ -77,7 +82,9 @@ on_track : {head : StackHead} {turns : List Turn} {net : Net} (by : PassWay) (x 
 on_track {net = net} way.Down x f onward b first stands live =
     let goes = down_to_filter net x f (goes_down b x (Module (Filter f)) first stands) in
     record { at = goes.1; goes = down_is x.direction goes.0 }
-on_track way.Up x f onward b first stands live = absurd onward
+on_track {net = net} way.Up x f onward b first stands live =
+    let goes = up_to_filter net x f (goes_up b x (Module (Filter f)) first stands) in
+    record { at = goes.1; goes = up_is b x (Module (Filter f)) live stands goes.0 }
 on_track (way.Done status) x f onward b first stands live = absurd onward
 on_track (way.Back status) x f onward b first stands live = absurd onward
 

@@ -1,5 +1,6 @@
 pub mod Parts
 pub mod Firsts
+pub mod Ups
 pub mod Asked
 pub mod Worked
 pub mod Turned

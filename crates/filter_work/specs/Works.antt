@@ -30,6 +30,7 @@ use Rattle.book_parts.specs.Events.{FirstIs}
 -- the ways of which the laws tell that they end at a filter that is attached, and with a list of the right direction
 abbrev pub IsOnward : PassWay → Type 0
 IsOnward way.Down = Unit {0}
+IsOnward way.Up = Unit {0}
 IsOnward _ = ⊥
 
 -- the first thing on its way is a list that goes so to this filter
