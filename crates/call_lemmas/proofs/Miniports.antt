@@ -1,7 +1,7 @@
 -- What the miniport does when it is called: the rows that it writes are those of the rules, and what was worked is in
 -- other hands.
-use Rattle.std.proofs.Common.{◌≡◌, ◌≢◌, ℕ, ◌+◌, ◌==◌, ◌&&◌, ◌⊎◌, inl, inr, not, Bool, true, false, cond, List, [], ◌∷◌, ◌++◌, Option, Some, None, map, length, refl, sym, ap, ◌∙◌, subst, append_assoc, append-nil, ne_eqb, eq-eqb}
-use Rattle.std.proofs.lemmas.Bool.{cond-true, cond-false}
+use Rattle.std.proofs.Common.{◌≡◌, ℕ, ◌==◌, Bool, true, false, cond, List, [], ◌∷◌, ◌++◌, Option, Some, None, map, length, refl, sym, ap, ◌∙◌, subst, append_assoc, ne_eqb, eq-eqb}
+use Rattle.std.proofs.lemmas.Bool.{cond-true}
 use Rattle.ndis_base.specs.declared.ModuleId.{ModuleId}
 use Rattle.ndis_base.specs.declared.ModuleId.TheVariants.{Miniport}
 use Rattle.ndis_base.specs.declared.Direction.TheVariants as direction
@@ -18,10 +18,10 @@ use Rattle.journal_types.specs.declared.Row.TheVariants as row
 use Rattle.journal_types.specs.declared.Target.{Target}
 use Rattle.buffer_pools.specs.Views.{ListView}
 use Rattle.stack_rules.specs.declared.LiveList.{LiveList}
-use Rattle.stack_rules.specs.Net.{Net, Modules, after_rows, lists, list_of}
+use Rattle.stack_rules.specs.Net.{Net, Modules, lists, list_of}
 use Rattle.stack_rules.specs.Dones.{released, homeward_rows}
 use Rattle.stack_rules.specs.Places.{kept_lists, position}
-use Rattle.stack_rules.specs.Sends.{miniport_rows, loops, transmitted, transmit_outcome}
+use Rattle.stack_rules.specs.Sends.{miniport_rows}
 use Rattle.stack_rules.specs.Targets.{homeward_by}
 use Rattle.stack_rules.specs.Tests.{same_module}
 use Rattle.promise_rules.specs.declared.Call.{Call}
@@ -36,7 +36,7 @@ use Rattle.book_lemmas.proofs.Standing.{plain_calm}
 use Rattle.driver_views.specs.States.{MiniportState}
 use Rattle.driver_tray.specs.Tray as tray
 use Rattle.driver_tray.specs.Tray.{TrayView, Starts}
-use Rattle.driver_calls.specs.Miniports.{Queues, keeps, fills, IsReturned, Transmits, idles, crosses, wires, loops as indicates, IsLooping}
+use Rattle.driver_calls.specs.Miniports.{Queues, keeps, fills, IsReturned}
 use Rattle.call_lemmas.specs.InCall.{Beside, InCall}
 use Rattle.call_lemmas.proofs.Bindings.{start_rows, in_started}
 use Rattle.call_lemmas.proofs.Steps.{in_turned_back, in_passed_front, in_passed_kept, in_kept, in_spent, in_wired, homeward_is}
@@ -125,7 +125,7 @@ returned_is net x l status same own none =
 abbrev pub transmit_rows : Net → Bool → Common → List Row
 transmit_rows net looping c = row.Wire c.list c.frames ∷ (cond looping (start_rows net Miniport direction.Up None c.frames) [] ++ home_row net.modules Miniport c Success ∷ [])
 
-in_wired_home : {b : TrayView} {h : Hands} {t : TrayView} {loose rest : List ListView} (l : ListView)
+pub in_wired_home : {b : TrayView} {h : Hands} {t : TrayView} {loose rest : List ListView} (l : ListView)
     → InCall b h Miniport [] [] [] t (record { front = []; loose = loose; kept = l ∷ rest })
     → InCall b h Miniport (transmit_rows b.net false (in_hand l)) [] (l.frames ∷ []) (tray.passed_back (tray.wired t l) l Success) (record { front = []; loose = loose; kept = rest })
 in_wired_home {b} {h} {t} {loose} {rest} l i =
@@ -134,7 +134,7 @@ in_wired_home {b} {h} {t} {loose} {rest} l i =
     subst (λ r. InCall b h Miniport (row.Wire l.label.number l.frames ∷ r ∷ []) [] (l.frames ∷ []) (tray.passed_back t1 l Success) (record { front = []; loose = loose; kept = rest })) (homeward_in l Success wired)
     (in_passed_kept [] rest l (tray.homeward_row t1 l Success) wired (homeward_is t1 l Success))
 
-in_wired_looped : {b : TrayView} {h : Hands} {t : TrayView} {loose rest : List ListView} (l : ListView) (begun : TrayView)
+pub in_wired_looped : {b : TrayView} {h : Hands} {t : TrayView} {loose rest : List ListView} (l : ListView) (begun : TrayView)
     → InCall b h Miniport [] [] [] t (record { front = []; loose = loose; kept = l ∷ rest }) → AreSized l.frames → Starts (tray.wired t l) direction.Up None l.frames begun
     → InCall b h Miniport (transmit_rows t.net true (in_hand l)) [] (l.frames ∷ []) (tray.passed_back begun l Success) (record { front = []; loose = loose; kept = rest })
 in_wired_looped {b} {h} {t} {loose} {rest} l begun i sized starts =

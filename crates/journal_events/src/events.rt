@@ -9,19 +9,18 @@ use journal_types::{Event, Frames, Refusal, Reply, Setup};
 use journal_words::page::Page;
 use journal_words::programs::push_program;
 use ndis_base::{
-    CrossNo, FilterKind, ListNo, ListStatus, OidKind, OidValue, OutOfMemory, Phase, StatusName,
-    Who, name_of_filter_kind, name_of_list_status, name_of_oid_kind, name_of_phase,
-    name_of_status_name,
+    CrossNo, FilterKind, ListNo, ListStatus, OidKind, OutOfMemory, Phase, StatusName, Who,
+    name_of_filter_kind, name_of_list_status, name_of_oid_kind, name_of_phase, name_of_status_name,
 };
 
-fn push_counted(page: &mut Page, text: &str, number: u64) -> Result<(), OutOfMemory>
+pub fn push_counted(page: &mut Page, text: &str, number: u64) -> Result<(), OutOfMemory>
     ensures { OnOk result (page.new ≡ word (word page.old text.now) (decimal number)) }
 {
     page.word(text)?;
     page.number(number)
 }
 
-fn push_with_filter(page: &mut Page, text: &str, filter: u64) -> Result<(), OutOfMemory>
+pub fn push_with_filter(page: &mut Page, text: &str, filter: u64) -> Result<(), OutOfMemory>
     ensures { OnOk result (page.new ≡ word (word page.old text.now) (filter_text filter)) }
 {
     page.word(text)?;
@@ -61,7 +60,7 @@ fn push_setup(page: &mut Page, setup: &Setup) -> Result<(), OutOfMemory>
     push_program(page, &setup.receive)
 }
 
-fn push_insert(
+pub fn push_insert(
     page: &mut Page,
     kind: FilterKind,
     position: u8,
@@ -75,7 +74,7 @@ fn push_insert(
     push_setup(page, setup)
 }
 
-fn push_replace(
+pub fn push_replace(
     page: &mut Page,
     filter: u64,
     kind: FilterKind,
@@ -102,7 +101,7 @@ fn push_send(
     page.frames(frames)
 }
 
-fn push_give_back(page: &mut Page, binding: u32, list: ListNo) -> Result<(), OutOfMemory>
+pub fn push_give_back(page: &mut Page, binding: u32, list: ListNo) -> Result<(), OutOfMemory>
     ensures { OnOk result (page.new ≡ spaced page.old (event_words (event.GiveBack binding list))) }
 {
     page.word("giveback")?;
@@ -110,12 +109,12 @@ fn push_give_back(page: &mut Page, binding: u32, list: ListNo) -> Result<(), Out
     page.number(list.0)
 }
 
-fn push_ask(
+pub fn push_ask(
     page: &mut Page,
     binding: u32,
     kind: OidKind,
     code: u32,
-    value: &OidValue,
+    value: &[u8],
 ) -> Result<(), OutOfMemory>
     ensures { OnOk result (page.new ≡ spaced page.old (event_words (event.Ask binding kind code value.now))) }
 {
@@ -126,7 +125,7 @@ fn push_ask(
     page.value(value)
 }
 
-fn push_status(page: &mut Page, name: StatusName) -> Result<(), OutOfMemory>
+pub fn push_status(page: &mut Page, name: StatusName) -> Result<(), OutOfMemory>
     ensures { OnOk result (page.new ≡ spaced page.old (event_words (event.Status name))) }
 {
     page.word("status")?;
@@ -149,7 +148,11 @@ fn push_cross_put(
     page.frames(frames)
 }
 
-fn push_cross_done(page: &mut Page, message: CrossNo, status: ListStatus) -> Result<(), OutOfMemory>
+pub fn push_cross_done(
+    page: &mut Page,
+    message: CrossNo,
+    status: ListStatus,
+) -> Result<(), OutOfMemory>
     ensures { OnOk result (page.new ≡ spaced page.old (event_words (event.CrossDone message status))) }
 {
     page.word("cross_done")?;
@@ -157,7 +160,7 @@ fn push_cross_done(page: &mut Page, message: CrossNo, status: ListStatus) -> Res
     page.word(name_of_list_status(status))
 }
 
-fn push_cross_take_up(page: &mut Page, binding: u32, vlan: u16) -> Result<(), OutOfMemory>
+pub fn push_cross_take_up(page: &mut Page, binding: u32, vlan: u16) -> Result<(), OutOfMemory>
     ensures { OnOk result (page.new ≡ spaced page.old (event_words (event.CrossTakeUp binding vlan))) }
 {
     page.word("cross_take_up")?;
@@ -209,7 +212,7 @@ pub fn push_event(page: &mut Page, event: &Event) -> Result<(), OutOfMemory>
             kind,
             code,
             value,
-        } => push_ask(page, *binding, *kind, *code, value),
+        } => push_ask(page, *binding, *kind, *code, value.bytes()),
         Event::Status { name } => push_status(page, *name),
         Event::Transmit => page.word("transmit"),
         Event::Pump => page.word("pump"),
@@ -259,7 +262,7 @@ fn push_refusal(page: &mut Page, refusal: Refusal) -> Result<(), OutOfMemory>
     }
 }
 
-fn push_refused(page: &mut Page, refusal: Refusal) -> Result<(), OutOfMemory>
+pub fn push_refused(page: &mut Page, refusal: Refusal) -> Result<(), OutOfMemory>
     ensures { OnOk result (page.new ≡ spaced (word page.old (codes "refused")) (refusal_words refusal)) }
 {
     page.word("refused")?;

@@ -5,12 +5,12 @@ ghost use Rattle.journal_types.specs.declared.Row.TheVariants as row;
 ghost use Rattle.journal_words.specs.Words.{word, spaced, module_text, optional_text, filter_text};
 ghost use Rattle.journal_rows.specs.Rows.{handler_text, how_text, way_text, issued_words, pass_words, phase_words, config_words, parent_text, out_words, row_words};
 
-use journal_types::{FilterList, Frames, Handler, How, OutWay, PassWay, PhaseOf, Row, Target, Way};
+use journal_types::{Frames, Handler, How, OutWay, PassWay, PhaseOf, Row, Target, Way};
 use journal_words::page::Page;
 use ndis_base::{
-    ConfigNo, CrossNo, Direction, ListNo, ListStatus, ModuleId, OidKind, OidNo, OidStatus,
-    OidValue, Origin, OutOfMemory, StatusName, StatusNo, name_of_direction, name_of_list_status,
-    name_of_oid_kind, name_of_oid_status, name_of_phase, name_of_state, name_of_status_name,
+    ConfigNo, CrossNo, Direction, ListNo, ListStatus, ModuleId, OidKind, OidNo, OidStatus, Origin,
+    OutOfMemory, StatusName, StatusNo, name_of_direction, name_of_list_status, name_of_oid_kind,
+    name_of_oid_status, name_of_phase, name_of_state, name_of_status_name,
 };
 
 fn name_of_handler(handler: Handler) -> &'static str
@@ -25,7 +25,7 @@ fn name_of_handler(handler: Handler) -> &'static str
     }
 }
 
-fn name_of_how(how: How) -> &'static str
+pub fn name_of_how(how: How) -> &'static str
     ensures { result.now ≡ how_text how }
 {
     match how {
@@ -34,7 +34,7 @@ fn name_of_how(how: How) -> &'static str
     }
 }
 
-fn name_of_way(way: Way) -> &'static str
+pub fn name_of_way(way: Way) -> &'static str
     ensures { result.now ≡ way_text way }
 {
     match way {
@@ -109,10 +109,10 @@ fn push_filters(page: &mut Page, filters: &[u64]) -> Result<(), OutOfMemory>
     Ok(())
 }
 
-fn push_config(page: &mut Page, filters: &FilterList) -> Result<(), OutOfMemory>
+fn push_config(page: &mut Page, filters: &[u64]) -> Result<(), OutOfMemory>
     ensures { OnOk result (page.new ≡ spaced page.old (config_words filters.now)) }
 {
-    match filters.items() {
+    match filters {
         [] => page.word("-"),
         [first, more @ ..] => {
             page.filter(*first)?;
@@ -148,7 +148,7 @@ fn push_out(page: &mut Page, way: OutWay, frames: &Frames) -> Result<(), OutOfMe
 }
 
 /// A word and the list that the row is about.
-fn push_list(page: &mut Page, text: &str, list: ListNo) -> Result<(), OutOfMemory>
+pub fn push_list(page: &mut Page, text: &str, list: ListNo) -> Result<(), OutOfMemory>
     ensures { OnOk result (page.new ≡ word (word page.old text.now) (decimal list.0)) }
 {
     page.word(text)?;
@@ -156,7 +156,7 @@ fn push_list(page: &mut Page, text: &str, list: ListNo) -> Result<(), OutOfMemor
 }
 
 /// What an issued list is, up to its configuration.
-fn push_new_list(
+pub fn push_new_list(
     page: &mut Page,
     list: ListNo,
     owner: ModuleId,
@@ -184,7 +184,7 @@ fn push_issue(
     push_issued(page, origin, frames)
 }
 
-fn push_give(
+pub fn push_give(
     page: &mut Page,
     list: ListNo,
     module: ModuleId,
@@ -197,21 +197,26 @@ fn push_give(
     page.word(name_of_handler(handler))
 }
 
-fn push_passed(page: &mut Page, list: ListNo, way: PassWay, to: Target) -> Result<(), OutOfMemory>
+pub fn push_passed(
+    page: &mut Page,
+    list: ListNo,
+    way: PassWay,
+    to: Target,
+) -> Result<(), OutOfMemory>
     ensures { OnOk result (page.new ≡ spaced page.old (row_words (row.Pass list way to))) }
 {
     push_list(page, "pass", list)?;
     push_pass(page, way, to)
 }
 
-fn push_keep(page: &mut Page, list: ListNo, module: ModuleId) -> Result<(), OutOfMemory>
+pub fn push_keep(page: &mut Page, list: ListNo, module: ModuleId) -> Result<(), OutOfMemory>
     ensures { OnOk result (page.new ≡ spaced page.old (row_words (row.Keep list «module»))) }
 {
     push_list(page, "keep", list)?;
     page.module(module)
 }
 
-fn push_turn_back(
+pub fn push_turn_back(
     page: &mut Page,
     list: ListNo,
     module: ModuleId,
@@ -224,7 +229,7 @@ fn push_turn_back(
     page.word(name_of_list_status(status))
 }
 
-fn push_home(
+pub fn push_home(
     page: &mut Page,
     list: ListNo,
     owner: ModuleId,
@@ -259,17 +264,17 @@ fn push_deliver(
     page.frames(frames)
 }
 
-fn push_phase_row(page: &mut Page, of: PhaseOf) -> Result<(), OutOfMemory>
+pub fn push_phase_row(page: &mut Page, of: PhaseOf) -> Result<(), OutOfMemory>
     ensures { OnOk result (page.new ≡ spaced page.old (row_words (row.Phase of))) }
 {
     page.word("phase")?;
     push_phase(page, of)
 }
 
-fn push_config_row(
+pub fn push_config_row(
     page: &mut Page,
     config: ConfigNo,
-    filters: &FilterList,
+    filters: &[u64],
 ) -> Result<(), OutOfMemory>
     ensures { OnOk result (page.new ≡ spaced page.old (row_words (row.Config config filters.now))) }
 {
@@ -278,14 +283,14 @@ fn push_config_row(
     push_config(page, filters)
 }
 
-fn push_oid_issue(
+pub fn push_oid_issue(
     page: &mut Page,
     request: OidNo,
     parent: Option<OidNo>,
     binding: u32,
     kind: OidKind,
     code: u32,
-    value: &OidValue,
+    value: &[u8],
 ) -> Result<(), OutOfMemory>
     ensures { OnOk result (page.new ≡ spaced page.old (row_words (row.OidIssue request parent binding kind code value.now))) }
 {
@@ -298,7 +303,7 @@ fn push_oid_issue(
     page.value(value)
 }
 
-fn push_oid_give(page: &mut Page, request: OidNo, module: ModuleId) -> Result<(), OutOfMemory>
+pub fn push_oid_give(page: &mut Page, request: OidNo, module: ModuleId) -> Result<(), OutOfMemory>
     ensures { OnOk result (page.new ≡ spaced page.old (row_words (row.OidGive request «module»))) }
 {
     page.word("oidgive")?;
@@ -306,11 +311,11 @@ fn push_oid_give(page: &mut Page, request: OidNo, module: ModuleId) -> Result<()
     page.module(module)
 }
 
-fn push_oid_done(
+pub fn push_oid_done(
     page: &mut Page,
     request: OidNo,
     status: OidStatus,
-    value: &OidValue,
+    value: &[u8],
 ) -> Result<(), OutOfMemory>
     ensures { OnOk result (page.new ≡ spaced page.old (row_words (row.OidDone request status value.now))) }
 {
@@ -320,7 +325,7 @@ fn push_oid_done(
     page.value(value)
 }
 
-fn push_status(
+pub fn push_status(
     page: &mut Page,
     number: StatusNo,
     name: StatusName,
@@ -334,7 +339,7 @@ fn push_status(
     page.target(to)
 }
 
-fn push_seen(page: &mut Page, number: StatusNo, module: ModuleId) -> Result<(), OutOfMemory>
+pub fn push_seen(page: &mut Page, number: StatusNo, module: ModuleId) -> Result<(), OutOfMemory>
     ensures { OnOk result (page.new ≡ spaced page.old (row_words (row.Seen number «module»))) }
 {
     page.word("seen")?;
@@ -412,7 +417,7 @@ pub fn push_row(page: &mut Page, row: &Row) -> Result<(), OutOfMemory>
             frames,
         } => push_deliver(page, *list, *binding, *how, frames),
         Row::Phase { of } => push_phase_row(page, *of),
-        Row::Config { config, filters } => push_config_row(page, *config, filters),
+        Row::Config { config, filters } => push_config_row(page, *config, filters.items()),
         Row::OidIssue {
             request,
             parent,
@@ -420,13 +425,21 @@ pub fn push_row(page: &mut Page, row: &Row) -> Result<(), OutOfMemory>
             kind,
             code,
             value,
-        } => push_oid_issue(page, *request, *parent, *binding, *kind, *code, value),
+        } => push_oid_issue(
+            page,
+            *request,
+            *parent,
+            *binding,
+            *kind,
+            *code,
+            value.bytes(),
+        ),
         Row::OidGive { request, module } => push_oid_give(page, *request, *module),
         Row::OidDone {
             request,
             status,
             value,
-        } => push_oid_done(page, *request, *status, value),
+        } => push_oid_done(page, *request, *status, value.bytes()),
         Row::Status { number, name, to } => push_status(page, *number, *name, *to),
         Row::Seen { number, module } => push_seen(page, *number, *module),
         Row::CrossOut {

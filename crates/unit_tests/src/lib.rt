@@ -2,6 +2,8 @@
 #![tactic(auto)]
 
 #[cfg(test)]
+mod flat_texts;
+#[cfg(test)]
 mod lists_in_pools;
 #[cfg(test)]
 mod memory_ends;
