@@ -27,17 +27,19 @@ use Rattle.driver_calls.specs.Filters.{IsHandled, IsCompleted}
 use Rattle.book_lemmas.specs.Views.{BookView}
 use Rattle.book_parts.specs.Events.{FirstIs}
 
--- the ways of which the laws tell that they end at a filter that is attached, and with a list of the right direction
-abbrev pub IsOnward : PassWay → Type 0
-IsOnward way.Down = Unit {0}
-IsOnward way.Up = Unit {0}
-IsOnward _ = ⊥
+-- the ways of which the laws tell that they end at a filter that is attached: down and up, home to the owner of a send, and
+-- back past filters that don't own the receive
+abbrev pub IsTold : PassWay → ListView → ℕ → Type 0
+IsTold way.Down l f = Unit {0}
+IsTold way.Up l f = Unit {0}
+IsTold (way.Done status) l f = l.label.owner ≡ Filter f
+IsTold (way.Back status) l f = l.label.owner ≢ Filter f
 
 -- the first thing on its way is a list that goes so to this filter
 pub record GoesTo (v : BookView) (f : ℕ) : Type 0 where
   pub by : PassWay
-  pub onward : IsOnward by
   pub first : FirstIs v by (Module (Filter f))
+  pub told : IsTold by first.list f
 
 -- the tray while a filter is called, with its pool
 abbrev pub called_with : TrayView → ℕ → PoolView → TrayView
