@@ -1,19 +1,18 @@
 -- What is known where a list is first on its way and goes to a filter: the filter is attached and sits at a place, and the
 -- list may be worked there.
-use Rattle.std.proofs.Common.{◌≡◌, ℕ, ◌+◌, ◌<◌, ◌==◌, ◌||◌, ◌⊎◌, inl, inr, Bool, true, false, cond, List, [], ◌∷◌, Option, Some, None, IsSome, length, refl, sym, ap, ◌∙◌, subst, arith}
+use Rattle.std.proofs.Common.{◌≡◌, ℕ, ◌+◌, ◌<◌, ◌==◌, ◌||◌, inl, inr, Bool, true, false, cond, List, [], ◌∷◌, Option, Some, None, IsSome, length, refl, sym, ap, ◌∙◌, subst, arith}
 use Rattle.std.proofs.lemmas.List.Elements.{All-head}
 use Rattle.ndis_base.specs.declared.Direction.{Direction}
 use Rattle.ndis_base.specs.declared.Direction.TheVariants as direction
 use Rattle.ndis_base.specs.declared.ModuleId.{ModuleId}
-use Rattle.ndis_base.specs.declared.ModuleId.TheVariants.{Miniport, Filter, Binding}
+use Rattle.ndis_base.specs.declared.ModuleId.TheVariants.{Miniport, Filter}
 use Rattle.journal_types.specs.declared.PassWay.{PassWay}
 use Rattle.journal_types.specs.declared.PassWay.TheVariants as way
 use Rattle.journal_types.specs.declared.Setup.{Setup}
 use Rattle.journal_types.specs.declared.StackHead.{StackHead}
-use Rattle.journal_types.specs.declared.Target.{Target}
-use Rattle.journal_types.specs.declared.Target.TheVariants.{Module, Bindings}
+use Rattle.journal_types.specs.declared.Target.TheVariants.{Module}
 use Rattle.journal_types.specs.declared.Turn.{Turn}
-use Rattle.buffer_pools.specs.Views.{ListView, PoolView, IsOf}
+use Rattle.buffer_pools.specs.Views.{ListView, IsOf}
 use Rattle.stack_rules.specs.declared.Attached.{Attached}
 use Rattle.stack_rules.specs.declared.LiveList.{LiveList}
 use Rattle.stack_rules.specs.declared.Stand.TheVariants as stand
@@ -25,8 +24,6 @@ use Rattle.agenda_items.specs.declared.Carried.{Carried}
 use Rattle.agenda_items.specs.declared.Carried.TheVariants.{List as a_list}
 use Rattle.hand_lemmas.specs.Hands.{Common, in_state, in_hand}
 use Rattle.hand_lemmas.proofs.Tells.{next_list}
-use Rattle.driver_views.specs.States.{FilterState}
-use Rattle.driver_tray.specs.Tray.{TrayView}
 use Rattle.book_lemmas.specs.Between.{IsBetween}
 use Rattle.book_lemmas.specs.Stands.{Stands, IsSeated, IsPoolOf, IsCarriedSized}
 use Rattle.book_lemmas.specs.Views.{BookView, HeldView, IsPlace, filter_at, pool_at, seat_of, held_pool, hands_of}
@@ -41,9 +38,9 @@ use Rattle.lent_laws.specs.Lent.{is_lent, IsOwned}
 use Rattle.lent_laws.proofs.Lent.{none_is_lent}
 use Rattle.state_laws.proofs.Tops.{position_most}
 use Rattle.stack_rules.specs.Rewires.{is_in}
-use Rattle.book_parts.specs.Events.{IsBook, IsIdle, FirstIs}
+use Rattle.book_parts.specs.Events.{IsBook, IsIdle}
 use Rattle.book_parts.proofs.Ended.{idle_state}
-use Rattle.filter_work.specs.Works.{IsTold, GoesTo, GoesAs, MayTake, MayWork}
+use Rattle.filter_work.specs.Works.{IsTold, GoesTo, GoesAs, MayWork}
 
 pub between : (old : BookView) → IsBook old → IsIdle old → IsBetween old.tray.head old.tray.turns old.tray.net
 between old k i = record { is = idle_state old k i; sound = k.follows.sound; bound = k.bound }

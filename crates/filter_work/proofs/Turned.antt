@@ -1,16 +1,11 @@
 -- The event at the book: a pump of a list at a filter.
-use Rattle.std.proofs.Common.{◌≡◌, ℕ, ◌≤◌, Bool, false, List, [], ◌∷◌, ◌++◌, Option, Some, slice_set, refl, sym, ap, ◌∙◌, subst, arith}
+use Rattle.std.proofs.Common.{◌≡◌, ℕ, ◌≤◌, Bool, false, List, [], ◌∷◌, ◌++◌, Some, slice_set, refl, sym, ap, ◌∙◌, subst, arith}
 use Rattle.std.proofs.lemmas.List.Elements.{All-head, All-tail, All-nil, All-cons}
 use Rattle.ndis_base.specs.declared.ModuleId.{ModuleId}
 use Rattle.ndis_base.specs.declared.ModuleId.TheVariants.{Filter}
-use Rattle.journal_types.specs.declared.Event.{Event}
 use Rattle.journal_types.specs.declared.Event.TheVariants as event
 use Rattle.journal_types.specs.declared.PassWay.{PassWay}
-use Rattle.journal_types.specs.declared.PassWay.TheVariants as way
-use Rattle.journal_types.specs.declared.Reply.{Reply}
 use Rattle.journal_types.specs.declared.Reply.TheVariants as reply
-use Rattle.journal_types.specs.declared.Row.{Row}
-use Rattle.journal_types.specs.declared.StackHead.{StackHead}
 use Rattle.journal_types.specs.declared.Target.{Target}
 use Rattle.journal_types.specs.declared.Target.TheVariants.{Module}
 use Rattle.buffer_pools.specs.Views.{ListView, PoolView}
@@ -19,7 +14,7 @@ use Rattle.stack_rules.specs.declared.LiveList.{LiveList}
 use Rattle.stack_rules.specs.declared.Thing.TheVariants as thing
 use Rattle.stack_rules.specs.Net.{Net}
 use Rattle.stack_rules.specs.Outcome.{Outcome}
-use Rattle.stack_rules.specs.Places.{agenda_first, pool_of}
+use Rattle.stack_rules.specs.Places.{agenda_first}
 use Rattle.stack_rules.specs.Pumps.{moved_rows, pump_of, pump_outcome}
 use Rattle.agenda_items.specs.declared.Carried.{Carried}
 use Rattle.agenda_items.specs.declared.Carried.TheVariants.{List as a_list}
@@ -29,15 +24,14 @@ use Rattle.driver_tray.specs.Tray.{TrayView}
 use Rattle.book_lemmas.specs.Between.{IsBetween}
 use Rattle.book_lemmas.specs.Called.{SitsAt, filter_called}
 use Rattle.book_lemmas.specs.Stands.{Stands, IsCarriedSized}
-use Rattle.book_lemmas.specs.Turns.{HasUsed}
-use Rattle.book_lemmas.specs.Views.{BookView, HeldView, filter_at, pool_at, seat_of, kept_of, held_pool, hands_of}
+use Rattle.book_lemmas.specs.Views.{BookView, HeldView, filter_at, pool_at, seat_of, hands_of}
 use Rattle.book_lemmas.proofs.Called.{sits_at, filter_is_called, filter_leaves}
 use Rattle.call_lemmas.specs.InCall.{InCall}
 use Rattle.call_lemmas.proofs.Ends.{enters}
 use Rattle.call_lemmas.proofs.Served.{did_filter}
 use Rattle.book_parts.specs.Events.{IsBook, IsIdle, DidEvent, IsUnmoved, CanEnd}
 use Rattle.book_parts.proofs.Events.{Begins, Ends, begins_roomed, begins_called, begins_stands, did_event, ends_call, unmoved}
-use Rattle.filter_work.specs.Works.{IsTold, GoesTo, IsRoomed, Takes, Works, WorksFirst, called_with}
+use Rattle.filter_work.specs.Works.{IsTold, GoesTo, IsRoomed, Takes, WorksFirst, called_with}
 use Rattle.filter_work.proofs.Asked.{IsFor, IsPlaced, between, is_for, is_placed}
 use Rattle.filter_work.proofs.Worked.{IsWorked, worked}
 

@@ -10,10 +10,8 @@ use Rattle.journal_types.specs.declared.Handler.{Handler}
 use Rattle.journal_types.specs.declared.Handler.TheVariants as handler
 use Rattle.journal_types.specs.declared.PassWay.{PassWay}
 use Rattle.journal_types.specs.declared.PassWay.TheVariants as way
-use Rattle.journal_types.specs.declared.Row.{Row}
-use Rattle.journal_types.specs.declared.Target.{Target}
 use Rattle.journal_types.specs.declared.Target.TheVariants.{Module}
-use Rattle.buffer_pools.specs.Views.{ListView, live_count}
+use Rattle.buffer_pools.specs.Views.{ListView}
 use Rattle.stack_rules.specs.declared.Attached.{Attached}
 use Rattle.stack_rules.specs.declared.LiveList.{LiveList}
 use Rattle.stack_rules.specs.declared.Stand.{Stand}
@@ -38,7 +36,7 @@ use Rattle.driver_calls.specs.Filters.{Handles, IsHandled, Completes}
 use Rattle.book_lemmas.specs.Views.{HeldView}
 use Rattle.call_lemmas.specs.InCall.{InCall}
 use Rattle.call_lemmas.specs.Served.{AreCallsOf, Counts}
-use Rattle.call_lemmas.proofs.Filters.{IsGiven, back_rows, full_in, in_handled, in_back}
+use Rattle.call_lemmas.proofs.Filters.{back_rows, full_in, in_handled, in_back}
 use Rattle.call_lemmas.proofs.Homewards.{in_passed_home, in_completed}
 use Rattle.call_lemmas.proofs.Served.{counts_none, counts_call}
 use Rattle.filter_work.specs.Works.{Climbs, GoesHome, Takes}

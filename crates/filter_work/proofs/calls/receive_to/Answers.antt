@@ -1,4 +1,4 @@
-use Rattle.std.proofs.Common.{◌≡◌, subst, ap, ◌∙◌}
+use Rattle.std.proofs.Common.{subst, ap, ◌∙◌}
 use Rattle.buffer_pools.specs.Views.{PoolView}
 use Rattle.driver_tray.specs.Tray.{TrayView}
 use Rattle.filter_work.specs.Works.{Climbs}
