@@ -1,5 +1,5 @@
 -- A filter and its pool at a place, and all filters and pools with them.
-use Rattle.std.proofs.Common.{◌≡◌, ℕ, ◌<◌, List, length, map, slice_index_or, slice_set, refl, sym, ap, ◌∙◌, subst, get_or-set_same}
+use Rattle.std.proofs.Common.{◌≡◌, ℕ, ◌<◌, List, length, map, slice_index_or, slice_set, sym, ap, ◌∙◌, subst, get_or-set_same}
 use Rattle.std.specs.Prelude.{Result, Ok, Err, OnOk, OnErr}
 use Rattle.std.proofs.lemmas.List.{map-set, get_or-map, length-map}
 use Rattle.std.proofs.Math.Seq.{map-set_same}

@@ -1,16 +1,11 @@
 -- The event at the book: a pump of a list at a filter.
-use Rattle.std.proofs.Common.{◌≡◌, ℕ, ◌≤◌, Bool, false, List, [], ◌∷◌, ◌++◌, Option, Some, slice_set, refl, sym, ap, ◌∙◌, subst, arith}
+use Rattle.std.proofs.Common.{◌≡◌, ℕ, ◌≤◌, Bool, false, List, [], ◌∷◌, ◌++◌, Some, slice_set, refl, sym, ap, ◌∙◌, subst, arith}
 use Rattle.std.proofs.lemmas.List.Elements.{All-head, All-tail, All-nil, All-cons}
 use Rattle.ndis_base.specs.declared.ModuleId.{ModuleId}
 use Rattle.ndis_base.specs.declared.ModuleId.TheVariants.{Filter}
-use Rattle.journal_types.specs.declared.Event.{Event}
 use Rattle.journal_types.specs.declared.Event.TheVariants as event
 use Rattle.journal_types.specs.declared.PassWay.{PassWay}
-use Rattle.journal_types.specs.declared.PassWay.TheVariants as way
-use Rattle.journal_types.specs.declared.Reply.{Reply}
 use Rattle.journal_types.specs.declared.Reply.TheVariants as reply
-use Rattle.journal_types.specs.declared.Row.{Row}
-use Rattle.journal_types.specs.declared.StackHead.{StackHead}
 use Rattle.journal_types.specs.declared.Target.{Target}
 use Rattle.journal_types.specs.declared.Target.TheVariants.{Module}
 use Rattle.buffer_pools.specs.Views.{ListView, PoolView}
@@ -19,7 +14,7 @@ use Rattle.stack_rules.specs.declared.LiveList.{LiveList}
 use Rattle.stack_rules.specs.declared.Thing.TheVariants as thing
 use Rattle.stack_rules.specs.Net.{Net}
 use Rattle.stack_rules.specs.Outcome.{Outcome}
-use Rattle.stack_rules.specs.Places.{agenda_first, pool_of}
+use Rattle.stack_rules.specs.Places.{agenda_first}
 use Rattle.stack_rules.specs.Pumps.{moved_rows, pump_of, pump_outcome}
 use Rattle.agenda_items.specs.declared.Carried.{Carried}
 use Rattle.agenda_items.specs.declared.Carried.TheVariants.{List as a_list}
@@ -29,15 +24,14 @@ use Rattle.driver_tray.specs.Tray.{TrayView}
 use Rattle.book_lemmas.specs.Between.{IsBetween}
 use Rattle.book_lemmas.specs.Called.{SitsAt, filter_called}
 use Rattle.book_lemmas.specs.Stands.{Stands, IsCarriedSized}
-use Rattle.book_lemmas.specs.Turns.{HasUsed}
-use Rattle.book_lemmas.specs.Views.{BookView, HeldView, filter_at, pool_at, seat_of, kept_of, held_pool, hands_of}
+use Rattle.book_lemmas.specs.Views.{BookView, HeldView, filter_at, pool_at, seat_of, hands_of}
 use Rattle.book_lemmas.proofs.Called.{sits_at, filter_is_called, filter_leaves}
 use Rattle.call_lemmas.specs.InCall.{InCall}
 use Rattle.call_lemmas.proofs.Ends.{enters}
 use Rattle.call_lemmas.proofs.Served.{did_filter}
 use Rattle.book_parts.specs.Events.{IsBook, IsIdle, DidEvent, IsUnmoved, CanEnd}
 use Rattle.book_parts.proofs.Events.{Begins, Ends, begins_roomed, begins_called, begins_stands, did_event, ends_call, unmoved}
-use Rattle.filter_work.specs.Works.{GoesTo, IsRoomed, Takes, Works, WorksFirst, called_with}
+use Rattle.filter_work.specs.Works.{IsTold, GoesTo, IsRoomed, Takes, WorksFirst, called_with}
 use Rattle.filter_work.proofs.Asked.{IsFor, IsPlaced, between, is_for, is_placed}
 use Rattle.filter_work.proofs.Worked.{IsWorked, worked}
 
@@ -68,27 +62,27 @@ pub record IsDone (old new : BookView) : Type 0 where
   pub did : DidEvent old new event.Pump reply.Moved
   pub turn : CanEnd new
 
-taken_done : (old : BookView) (begun : TrayView) (l : ListView) (rest : List Carried) (f place : ℕ) (s' : FilterState) (left : TrayView) → IsBook old → IsIdle old → Begins old.tray begun [] → 1 ≤ begun.room.turns
-    → begun.queue ≡ a_list l way.Down (Module (Filter f)) ∷ rest → seat_of old.held.seats f ≡ Some place
-    → Takes way.Down (filter_at old.held.filters (Some place)) l (called_with (record begun { queue = rest }) f (pool_at old.held.filter_pools (Some place))) s' left
+taken_done : (old : BookView) (begun : TrayView) (by : PassWay) (l : ListView) (rest : List Carried) (f place : ℕ) (s' : FilterState) (left : TrayView) → IsTold by l f → IsBook old → IsIdle old → Begins old.tray begun [] → 1 ≤ begun.room.turns
+    → begun.queue ≡ a_list l by (Module (Filter f)) ∷ rest → seat_of old.held.seats f ≡ Some place
+    → Takes by (filter_at old.held.filters (Some place)) l (called_with (record begun { queue = rest }) f (pool_at old.held.filter_pools (Some place))) s' left
     → IsDone old (record { tray = record left { pool = begun.pool }; held = filter_called old.held place s' left.pool })
-taken_done old begun l rest f place s' left k i roomed turns first seat takes =
+taken_done old begun by l rest f place s' left told k i roomed turns first seat takes =
     let m : ModuleId = Filter f in
-    let front : List Carried = a_list l way.Down (Module (Filter f)) ∷ [] in
+    let front : List Carried = a_list l by (Module (Filter f)) ∷ [] in
     let s : FilterState = filter_at old.held.filters (Some place) in
     let b : TrayView = called_with (record begun { queue = rest }) f (pool_at old.held.filter_pools (Some place)) in
     let h : Hands = hands_of (front ++ rest) old.held [] in
     let g : Begins old.tray b front = begins_called m (pool_at old.held.filter_pools (Some place)) (begins_first roomed first) in
     let stands : Stands b.net (front ++ rest) old.held [] = begins_stands k g in
     let at_begin : IsBetween old.tray.head old.tray.turns b.net = subst (IsBetween old.tray.head old.tray.turns) (sym g.net) (between old k i) in
-    let here : IsFor b.net old.held way.Down l f = is_for l f at_begin stands in
+    let here : IsFor b.net old.held by l f = is_for by l f told at_begin stands in
     let there : IsPlaced b.net old.held f place here.at.a = is_placed place stands here seat in
     let all = stands.sized.carried in
     let enter = enters b old.held m front [] stands refl (ap (pool_at old.held.filter_pools) (sym seat))
-    (All-cons IsCarriedSized (a_list l way.Down (Module (Filter f))) [] (All-head IsCarriedSized (a_list l way.Down (Module (Filter f))) rest all) (All-nil IsCarriedSized))
-    (All-tail IsCarriedSized (a_list l way.Down (Module (Filter f))) rest all) in
+    (All-cons IsCarriedSized (a_list l by (Module (Filter f))) [] (All-head IsCarriedSized (a_list l by (Module (Filter f))) rest all) (All-nil IsCarriedSized))
+    (All-tail IsCarriedSized (a_list l by (Module (Filter f))) rest all) in
     let begin = subst (λ o. InCall b h m [] [] [] b (record { front = front; loose = []; kept = (filter_at old.held.filters o).kept })) seat enter in
-    let w : IsWorked b h f here.x s s' left = worked way.Down here begin there.kind there.setup there.size takes in
+    let w : IsWorked b h f here.x s s' left = worked by here begin there.kind there.setup there.size takes in
     let sits : SitsAt old.held f place = sits_at stands f place seat in
     let held : HeldView = filter_called old.held place s' left.pool in
     let ends : Ends old (record { tray = record left { pool = begun.pool }; held = held }) (moved_rows b.net here.x here.x.stand w.keeps) =
@@ -102,8 +96,12 @@ taken_done old begun l rest f place s' left k i roomed turns first seat takes =
       turn = record { room = omega (arith, turns, w.call_is.used.turns) };
     }
 
-same_first : {l k : ListView} {by way_of : PassWay} {to at : Target} {rest more : List Carried} → a_list l by to ∷ rest ≡ a_list k way_of at ∷ more → (by ≡ way_of) × (to ≡ at)
-same_first {by = by} {way_of = way_of} {to = to} {at = at} e = let one : by ≡ way_of = cc in let two : to ≡ at = cc in (one, two)
+same_first : {l k : ListView} {by way_of : PassWay} {to at : Target} {rest more : List Carried} → a_list l by to ∷ rest ≡ a_list k way_of at ∷ more → (by ≡ way_of) × (to ≡ at) × (k ≡ l)
+same_first {l = l} {k = k} {by = by} {way_of = way_of} {to = to} {at = at} e =
+    let one : by ≡ way_of = cc in
+    let two : to ≡ at = cc in
+    let three : k ≡ l = cc in
+    (one, two, three)
 
 book_is : {new : BookView} {t : TrayView} {h : HeldView} → new.tray ≡ t → new.held ≡ h → record { tray = t; held = h } ≡ new
 book_is {new} {t} {h} e f = ap (λ x. record { tray = x; held = h }) (sym e) ∙ ap (λ x. record { tray = new.tray; held = x }) (sym f)
@@ -114,10 +112,10 @@ pub worked_event : (old new : BookView) (f place : ℕ) (s' : FilterState) (pool
 worked_event old new f place s' pool' k i to seat d held =
     let roomed : Begins old.tray d.begun [] = begins_roomed old.tray d.begun d.roomed.same d.roomed.covers d.roomed.slack in
     let is = same_first (sym d.first ∙ sym roomed.queue ∙ to.first.first) in
-    let first : d.begun.queue ≡ a_list d.list way.Down (Module (Filter f)) ∷ d.rest = d.first ∙ ap (λ w. a_list d.list w d.to ∷ d.rest) is.0 ∙ ap (λ t. a_list d.list way.Down t ∷ d.rest) is.1 in
+    let first : d.begun.queue ≡ a_list d.list to.by (Module (Filter f)) ∷ d.rest = d.first ∙ ap (λ w. a_list d.list w d.to ∷ d.rest) is.0 ∙ ap (λ t. a_list d.list to.by t ∷ d.rest) is.1 in
     let takes = subst (λ w. Takes w (filter_at old.held.filters (Some place)) d.list (called_with (record d.begun { queue = d.rest }) f (pool_at old.held.filter_pools (Some place))) s' d.works.left) is.0 d.works.takes in
     subst (IsDone old) (book_is d.works.tray (held ∙ ap (filter_called old.held place s') d.works.pool_is))
-    (taken_done old d.begun d.list d.rest f place s' d.works.left k i roomed d.turns first seat takes)
+    (taken_done old d.begun to.by d.list d.rest f place s' d.works.left (subst (λ l. IsTold to.by l f) is.2 to.told) k i roomed d.turns first seat takes)
 
 -- the view with other filters and pools
 pub called_at : (held : HeldView) (place : ℕ) (s : FilterState) (pool : PoolView) (filters : List FilterState) (pools : List PoolView) → filters ≡ slice_set held.filters place s → pools ≡ slice_set held.filter_pools place pool

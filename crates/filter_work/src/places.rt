@@ -41,7 +41,7 @@ fn work_at<F: FilterCalls>(
 ) -> Result<(), OutOfMemory>
     requires filters { place < length filters.old.items }
     requires pools { place < length pools.old.items }
-    requires may { MayWork (filter_at (map F.state filters.old.items) (Some place)) tray.old (pool_at pools.old.items (Some place)) }
+    requires may { MayWork f (filter_at (map F.state filters.old.items) (Some place)) tray.old (pool_at pools.old.items (Some place)) }
     ensures filters { map F.state filters.new.items ≡ slice_set (map F.state filters.old.items) place (filter_at (map F.state filters.new.items) (Some place)) }
     ensures pools { pools.new.items ≡ slice_set pools.old.items place (pool_at pools.new.items (Some place)) }
     ensures works { OnOk result (WorksFirst f (filter_at (map F.state filters.old.items) (Some place)) tray.old (pool_at pools.old.items (Some place)) (filter_at (map F.state filters.new.items) (Some place)) tray.new (pool_at pools.new.items (Some place))) }

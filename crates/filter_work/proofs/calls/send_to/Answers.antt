@@ -1,4 +1,4 @@
-use Rattle.std.proofs.Common.{◌≡◌, subst, ap, ◌∙◌}
+use Rattle.std.proofs.Common.{subst, ap, ◌∙◌}
 use Rattle.journal_types.specs.declared.Handler.TheVariants as handler
 use Rattle.promise_rules.specs.declared.Called.TheVariants as called
 use Rattle.buffer_pools.specs.Views.{PoolView}

@@ -1,4 +1,4 @@
-use Rattle.std.proofs.Common.{◌≡◌, ◌<◌, map, ap, sym, subst, ◌∙◌}
+use Rattle.std.proofs.Common.{◌<◌, map, ap, sym, subst, ◌∙◌}
 use Rattle.std.proofs.lemmas.List.{length-map}
 use Rattle.book_lemmas.specs.Views.{BookView, seat_of}
 use Rattle.book_parts.specs.Parts.{view_of}
