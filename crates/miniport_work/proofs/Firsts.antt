@@ -1,5 +1,5 @@
 -- What is known of the first thing on its way, a list, as an event of the miniport begins.
-use Rattle.std.proofs.Common.{◌≡◌, ◌≢◌, ℕ, true, List, [], ◌∷◌, Option, Some, IsSome, refl, sym, ap, ◌∙◌, subst}
+use Rattle.std.proofs.Common.{◌≡◌, ◌≢◌, false, ℕ, true, List, [], ◌∷◌, Option, Some, IsSome, refl, sym, ap, ◌∙◌, subst}
 use Rattle.ndis_base.specs.declared.Direction.{Direction}
 use Rattle.ndis_base.specs.declared.Direction.TheVariants as direction
 use Rattle.ndis_base.specs.declared.ListStatus.{ListStatus}
@@ -33,6 +33,7 @@ use Rattle.book_lemmas.specs.Between.{IsBetween}
 use Rattle.book_lemmas.specs.Stands.{DriversFit}
 use Rattle.book_lemmas.specs.Views.{BookView, HeldView, held_pool, hands_of}
 use Rattle.book_lemmas.proofs.Between.{not_halted}
+use Rattle.lent_laws.specs.Lent.{is_lent}
 use Rattle.book_parts.specs.Events.{IsBook, IsIdle, FirstIs}
 use Rattle.book_parts.proofs.Ended.{idle_state}
 use Rattle.book_parts.proofs.Events.{Begins, begins_roomed}
@@ -88,6 +89,12 @@ down_is direction.Down e = refl
 down_is direction.Up e = cc
 down_is direction.Lent e = cc
 
+-- a receive that isn't lent
+pub up_is : (d : Direction) → is_down d ≡ false → is_lent d ≡ false → d ≡ direction.Up
+up_is direction.Down e o = cc
+up_is direction.Up e o = refl
+up_is direction.Lent e o = cc
+
 -- the tray before the call, once the list was taken from what is on its way
 pub begins_taken : {old before t : TrayView} {c : Carried} → IsRoomed old before → before ≡ record t { queue = c ∷ t.queue } → Begins old t (c ∷ [])
 begins_taken {old} {before} {t} {c} r e =
@@ -107,11 +114,11 @@ pub record IsTaken (old : BookView) (l : ListView) (way : PassWay) (t : TrayView
   pub begins : Begins old.tray t (a_list l way (Module Miniport) ∷ [])
   pub list : IsFirstList old l way (Module Miniport)
 
-to_is : {old : BookView} {before t : TrayView} {l : ListView} {way w : PassWay} {to : Target} → (f : FirstIs old w (Module Miniport)) → IsRoomed old.tray before → before ≡ record t { queue = a_list l way to ∷ t.queue } → (to ≡ Module Miniport) × (way ≡ w) × (f.list ≡ l)
+to_is : {old : BookView} {before t : TrayView} {l : ListView} {way w : PassWay} {to : Target} → FirstIs old w (Module Miniport) → IsRoomed old.tray before → before ≡ record t { queue = a_list l way to ∷ t.queue } → (to ≡ Module Miniport) × (way ≡ w)
 to_is {old} {before} {t} {l} {way} {w} {to} f r e =
     let a : old.tray.queue ≡ a_list f.list w (Module Miniport) ∷ f.rest = f.first in
     let b : old.tray.queue ≡ a_list l way to ∷ t.queue = sym (ap (λ (q : TrayView). q.queue) r.same) ∙ ap (λ (q : TrayView). q.queue) e in
-    (cc, cc, cc)
+    (cc, cc)
 
 pub taken_is : {old : BookView} {before t : TrayView} {l : ListView} {way w : PassWay} {to : Target} → IsBook old → IsIdle old → FirstIs old w (Module Miniport) → IsRoomed old.tray before → before ≡ record t { queue = a_list l way to ∷ t.queue }
     → IsTaken old l w t
@@ -135,28 +142,20 @@ way_clash f r e is = sym (to_is f r e).1 ∙ is
 pub down_first : {old : BookView} {before t : TrayView} {l : ListView} {way : PassWay} {to : Target} → GoesToMiniport old → IsRoomed old.tray before → before ≡ record t { queue = a_list l way to ∷ t.queue } → way ≡ ways.Down
     → FirstIs old ways.Down (Module Miniport)
 down_first (comes_down f) r e is = f
-down_first (comes_back status f up) r e is = let other : ways.Back status ≡ ways.Down = way_clash f r e is in cc
-
--- a receive that comes back
-pub record ComesBack (old : BookView) (l : ListView) (status : ListStatus) : Type 0 where
-  pub first : FirstIs old (ways.Back status) (Module Miniport)
-  pub up : l.label.direction ≡ direction.Up
+down_first (comes_back status f) r e is = let other : ways.Back status ≡ ways.Down = way_clash f r e is in cc
 
 pub back_first : {old : BookView} {before t : TrayView} {l : ListView} {way : PassWay} {to : Target} {status : ListStatus} → GoesToMiniport old → IsRoomed old.tray before → before ≡ record t { queue = a_list l way to ∷ t.queue } → way ≡ ways.Back status
-    → ComesBack old l status
+    → FirstIs old (ways.Back status) (Module Miniport)
 back_first (comes_down f) r e is = let other = way_clash f r e is in cc
-back_first {old} {status = status} (comes_back was f up) r e is =
+back_first {old} {status = status} (comes_back was f) r e is =
     let same : ways.Back was ≡ ways.Back status = way_clash f r e is in
     let told : was ≡ status = cc in
-    record {
-      first = subst (λ s. FirstIs old (ways.Back s) (Module Miniport)) told f;
-      up = ap (λ (k : ListView). k.label.direction) (sym (to_is f r e).2) ∙ up;
-    }
+    subst (λ s. FirstIs old (ways.Back s) (Module Miniport)) told f
 
 pub not_up : {old : BookView} {before t : TrayView} {l : ListView} {way : PassWay} {to : Target} → GoesToMiniport old → IsRoomed old.tray before → before ≡ record t { queue = a_list l way to ∷ t.queue } → way ≡ ways.Up → ⊥
 not_up (comes_down f) r e is = let other = way_clash f r e is in cc
-not_up (comes_back status f up) r e is = let other = way_clash f r e is in cc
+not_up (comes_back status f) r e is = let other = way_clash f r e is in cc
 
 pub not_done : {old : BookView} {before t : TrayView} {l : ListView} {way : PassWay} {to : Target} {status : ListStatus} → GoesToMiniport old → IsRoomed old.tray before → before ≡ record t { queue = a_list l way to ∷ t.queue } → way ≡ ways.Done status → ⊥
 not_done (comes_down f) r e is = let other = way_clash f r e is in cc
-not_done (comes_back status f up) r e is = let other = way_clash f r e is in cc
+not_done (comes_back status f) r e is = let other = way_clash f r e is in cc

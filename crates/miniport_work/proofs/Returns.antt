@@ -1,5 +1,5 @@
 -- A receive of the miniport comes back to it.
-use Rattle.std.proofs.Common.{◌≡◌, ℕ, ◌+◌, ◌<◌, ◌≤◌, ◌⊎◌, inl, inr, false, List, [], ◌∷◌, Some, length, refl, sym, ap, ◌∙◌, subst, arith}
+use Rattle.std.proofs.Common.{◌≡◌, ℕ, ◌≤◌, inl, inr, false, [], ◌∷◌, Some, length, refl, sym, ap, ◌∙◌, subst, arith}
 use Rattle.ndis_base.specs.declared.Direction.TheVariants as direction
 use Rattle.ndis_base.specs.declared.ListNo.{ListNo}
 use Rattle.ndis_base.specs.declared.ListStatus.{ListStatus}
@@ -9,17 +9,13 @@ use Rattle.ndis_base.specs.declared.Origin.TheVariants as origin
 use Rattle.journal_types.specs.declared.Event.TheVariants as event
 use Rattle.journal_types.specs.declared.PassWay.TheVariants as way
 use Rattle.journal_types.specs.declared.Reply.TheVariants as reply
-use Rattle.journal_types.specs.declared.Row.{Row}
-use Rattle.journal_types.specs.declared.Row.TheVariants as row
 use Rattle.journal_types.specs.declared.Target.TheVariants.{Module}
 use Rattle.buffer_pools.specs.Views.{ListView, PoolView, IsOf}
-use Rattle.flat_journal.specs.declared.types.Room.{Room}
 use Rattle.stack_rules.specs.declared.LiveList.{LiveList}
 use Rattle.stack_rules.specs.declared.Stand.TheVariants as stand
 use Rattle.stack_rules.specs.declared.Thing.TheVariants as thing
 use Rattle.stack_rules.specs.Dones.{homeward_rows}
 use Rattle.stack_rules.specs.Net.{Net, Modules, lists, list_of}
-use Rattle.stack_rules.specs.Places.{position}
 use Rattle.stack_rules.specs.Pumps.{pump_of}
 use Rattle.state_laws.proofs.Tops.{position_most}
 use Rattle.pause_laws.proofs.Works.{each_away}
@@ -27,7 +23,7 @@ use Rattle.place_laws.specs.Kept.{HasOriginal, StopsAbove}
 use Rattle.promise_rules.specs.declared.Called.TheVariants as called
 use Rattle.promise_rules.specs.Calls.{call}
 use Rattle.agenda_items.specs.declared.Carried.TheVariants.{List as a_list}
-use Rattle.hand_lemmas.specs.Hands.{Common, in_hand, in_state}
+use Rattle.hand_lemmas.specs.Hands.{Common}
 use Rattle.driver_views.specs.States.{Record, MiniportState}
 use Rattle.driver_tray.specs.Tray.{TrayView}
 use Rattle.driver_calls.specs.Miniports.{IsReturned}
@@ -38,11 +34,14 @@ use Rattle.call_lemmas.specs.InCall.{InCall}
 use Rattle.call_lemmas.specs.Served.{Counts}
 use Rattle.call_lemmas.proofs.Miniports.{in_returned, returned_is}
 use Rattle.call_lemmas.proofs.Served.{counts_call}
+use Rattle.rule_basics.specs.Live.{Each}
+use Rattle.lent_laws.specs.Lent.{IsOwned}
+use Rattle.lent_laws.proofs.Lent.{none_is_lent}
 use Rattle.book_parts.specs.Events.{IsBook, IsIdle, DidEvent}
 use Rattle.book_parts.proofs.Events.{Begins, did_event}
 use Rattle.miniport_work.specs.Works.{called_with, DoesWithPool, MayGiveBack, IsReady}
-use Rattle.miniport_work.proofs.Ended.{begins_work, Works, Ended, ended}
-use Rattle.miniport_work.proofs.Firsts.{between, IsFirstList}
+use Rattle.miniport_work.proofs.Ended.{begins_work, Works, ended}
+use Rattle.miniport_work.proofs.Firsts.{between, IsFirstList, up_is}
 use Rattle.miniport_work.proofs.Sends.{no_choice, first_moved}
 
 no_filter : {m : ModuleId} (g : ℕ) → m ≡ Miniport → m ≡ Filter g → ⊥
@@ -53,7 +52,14 @@ owner_is : (ms : Modules) (owner : ModuleId) → StopsAbove ms owner Miniport �
 owner_is ms owner (inl e) = sym e
 owner_is ms owner (inr low) = absurd (omega (arith, low, position_most ms.order owner))
 
-module _ (old : BookView) (l : ListView) (status : ListStatus) (k : IsBook old) (i : IsIdle old) (f : IsFirstList old l (way.Back status) (Module Miniport)) (up : l.label.direction ≡ direction.Up) where
+module _ (old : BookView) (l : ListView) (status : ListStatus) (k : IsBook old) (i : IsIdle old) (f : IsFirstList old l (way.Back status) (Module Miniport)) where
+  up : l.label.direction ≡ direction.Up
+  up =
+      let b = between old k i in
+      let none : Each IsOwned (lists old.tray.net.things) = subst (λ (n : Net). Each IsOwned (lists n.things)) (sym b.is) (none_is_lent old.tray.head old.tray.turns b.sound) in
+      ap (λ (c : Common). c.direction) (sym f.same)
+      ∙ up_is f.x.direction (goes_back b f.x Miniport status f.first f.stand).0 (each_away IsOwned old.tray.net.things f.x none f.first)
+
   mine : f.x.owner ≡ Miniport
   mine = owner_is old.tray.net.modules f.x.owner (goes_back (between old k i) f.x Miniport status f.first f.stand).1
 

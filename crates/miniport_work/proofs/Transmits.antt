@@ -1,35 +1,32 @@
 -- What the miniport transmits is what the rules say.
-use Rattle.std.proofs.Common.{◌≡◌, ◌≢◌, ℕ, ◌≤◌, ◌==◌, ◌&&◌, not, Bool, true, false, cond, List, [], ◌∷◌, ◌++◌, Option, Some, None, All, map, length, refl, sym, ap, ◌∙◌, subst, arith, eq-eqb, ne_eqb}
+use Rattle.std.proofs.Common.{◌≡◌, ◌≢◌, ℕ, ◌≤◌, ◌==◌, ◌&&◌, not, Bool, true, false, cond, List, [], ◌∷◌, Option, Some, None, All, map, length, refl, sym, ap, ◌∙◌, subst, arith, eq-eqb, ne_eqb}
 use Rattle.std.proofs.lemmas.Bool.{cond-false}
-use Rattle.std.proofs.lemmas.Bool.Decides.{nat_tests}
 use Rattle.std.proofs.lemmas.List.Elements.{All-head}
 use Rattle.ndis_base.specs.declared.ListNo.{ListNo}
 use Rattle.ndis_base.specs.declared.ModuleId.TheVariants.{Miniport}
 use Rattle.journal_types.specs.declared.Event.TheVariants as event
-use Rattle.journal_types.specs.declared.Row.{Row}
 use Rattle.buffer_pools.specs.Views.{ListView, PoolView, live_count}
 use Rattle.stack_rules.specs.declared.LiveList.{LiveList}
 use Rattle.stack_rules.specs.Net.{Net}
-use Rattle.stack_rules.specs.Places.{kept_lists, is_full, pool_of}
-use Rattle.stack_rules.specs.Sends.{loops, transmitted, transmit_of, first_of, first_in_ring, transmit_outcome}
+use Rattle.stack_rules.specs.Places.{kept_lists, is_full}
+use Rattle.stack_rules.specs.Sends.{loops, transmit_of, first_of, first_in_ring, transmit_outcome}
 use Rattle.stack_rules.specs.Tests.{is_loop, is_virtual, phase_is_running}
 use Rattle.hand_lemmas.specs.Frames.{AreSized}
 use Rattle.hand_lemmas.specs.Hands.{Common, in_hand, in_state}
 use Rattle.hand_lemmas.proofs.Tells.{full_is}
-use Rattle.driver_views.specs.States.{MiniportState, Record, logs}
+use Rattle.driver_views.specs.States.{MiniportState, logs}
 use Rattle.driver_tray.specs.Tray.{TrayView}
-use Rattle.driver_calls.specs.Miniports.{MayTransmit, IsTransmitted, Transmits, idles, crosses, wires, loops as indicates, IsLooping}
+use Rattle.driver_calls.specs.Miniports.{MayTransmit, IsTransmitted, Transmits, idles, crosses, wires, loops as indicates}
 use Rattle.book_lemmas.specs.Called.{miniport_called}
 use Rattle.book_lemmas.specs.Stands.{IsSized}
 use Rattle.book_lemmas.specs.Views.{BookView, hands_of}
 use Rattle.call_lemmas.specs.InCall.{InCall}
-use Rattle.call_lemmas.specs.Served.{Counts}
 use Rattle.call_lemmas.proofs.Miniports.{transmit_rows, in_wired_home, in_wired_looped}
 use Rattle.call_lemmas.proofs.Served.{counts_none, counts_log}
 use Rattle.book_parts.specs.Events.{IsBook, IsIdle, DidEvent}
-use Rattle.book_parts.proofs.Events.{Begins, begins_roomed, did_event}
-use Rattle.miniport_work.specs.Works.{called_with, DoesWithPool, IsReady, IsRoomed, wired_as}
-use Rattle.miniport_work.proofs.Ended.{begins_call, Works, Ended, ended}
+use Rattle.book_parts.proofs.Events.{Begins, did_event}
+use Rattle.miniport_work.specs.Works.{called_with, DoesWithPool, IsReady, wired_as}
+use Rattle.miniport_work.proofs.Ended.{begins_call, Works, ended}
 use Rattle.miniport_work.proofs.Sends.{no_choice}
 
 -- the tests of a loop, in hand and in the rules

@@ -68,10 +68,10 @@ pub record StartsWithList (queue : List Carried) : Type 0 where
   pub rest : List Carried
   pub is : queue ≡ a_list list way to ∷ rest
 
--- the first thing on its way is a send that comes down to the miniport, or a receive, not lent, that comes back to it
+-- the first thing on its way is a send that comes down to the miniport, or a receive that comes back to it
 pub data GoesToMiniport (v : BookView) : Type 0 where
   comes_down : FirstIs v way.Down (Module Miniport) → GoesToMiniport v
-  comes_back : (status : ListStatus) (f : FirstIs v (way.Back status) (Module Miniport)) → f.list.label.direction ≡ direction.Up → GoesToMiniport v
+  comes_back : (status : ListStatus) → FirstIs v (way.Back status) (Module Miniport) → GoesToMiniport v
 
 -- the answer to a transmission: the list that went onto the wire, or that there was none
 abbrev pub wired_as : Option ListNo → Reply

@@ -1,4 +1,4 @@
-use Rattle.std.proofs.Common.{◌≡◌, ◌≤◌, arith}
+use Rattle.std.proofs.Common.{arith}
 use Rattle.book_parts.proofs.Events.{begins_roomed}
 use Rattle.miniport_work.proofs.Transmits.{may_transmit, transmits}
 use Rattle.miniport_work.proofs.works.transmit.Goals as goal
