@@ -5,3 +5,4 @@ pub mod Bindings
 pub mod Miniports
 pub mod Filters
 pub mod Homewards
+pub mod Deliveries
