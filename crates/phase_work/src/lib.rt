@@ -1,5 +1,3 @@
-//! A stack pauses and restarts: the events of phases, one position a turn.
+//! What rows of phases leave: they call nobody and log nothing, and a stack's book stands after them. It has
+//! no code yet: definitions stand in specs/, lemmas in proofs/.
 #![tactic(auto)]
-
-pub mod floors;
-pub mod pauses;
