@@ -1,5 +1,4 @@
 use Rattle.std.proofs.Common.{ap, ◌∙◌}
-use Rattle.stack_rules.specs.Net.{Net}
 use Rattle.stack_rules.specs.Pauses.{first_unpaused}
 use Rattle.stack_ledger.proofs.Positions.{bare_unpaused}
 use Rattle.driver_tray.specs.Tray.{TrayView}

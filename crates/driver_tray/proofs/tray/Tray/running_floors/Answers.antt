@@ -1,5 +1,4 @@
 use Rattle.std.proofs.Common.{ap, ◌∙◌}
-use Rattle.stack_rules.specs.Net.{Net}
 use Rattle.stack_rules.specs.Pauses.{running_floors}
 use Rattle.stack_ledger.proofs.Positions.{bare_running}
 use Rattle.driver_tray.specs.Tray.{TrayView}
