@@ -92,6 +92,8 @@ filter_leaves held f place s pool sits kind setup size bytes = record {
   seats = refl;
   shelf = refl;
   port = refl;
+  miniport_kind = refl;
+  protocol_kinds = λ i. refl;
   protocols = refl;
   drivers = length-set held.filters place s;
   opened = λ i. refl;
@@ -104,12 +106,14 @@ filter_leaves held f place s pool sits kind setup size bytes = record {
   bytes = called_pool (λ (p : PoolView). p.bytes) (filter_is_called held f place s pool sits) bytes;
 }
 
-pub miniport_leaves : (held : HeldView) (s : MiniportState) (pool : PoolView) → s.port ≡ held.miniport.port → pool.size ≡ held.miniport_pool.size → pool.bytes ≡ held.miniport_pool.bytes
+pub miniport_leaves : (held : HeldView) (s : MiniportState) (pool : PoolView) → s.kind ≡ held.miniport.kind → s.port ≡ held.miniport.port → pool.size ≡ held.miniport_pool.size → pool.bytes ≡ held.miniport_pool.bytes
     → Leaves held (miniport_called held s pool)
-miniport_leaves held s pool port size bytes = record {
+miniport_leaves held s pool kind port size bytes = record {
   seats = refl;
   shelf = refl;
   port = port;
+  miniport_kind = kind;
+  protocol_kinds = λ i. refl;
   protocols = refl;
   drivers = refl;
   opened = λ i. refl;
@@ -122,22 +126,24 @@ miniport_leaves held s pool port size bytes = record {
   bytes = called_pool (λ (p : PoolView). p.bytes) (miniport_is_called held s pool) bytes;
 }
 
-opened_still : (protocols : List ProtocolState) (i : ℕ) (s : ProtocolState) → i < length protocols → s.is_open ≡ (slice_index_or protocols i no_protocol).is_open
-    → (j : ℕ) → (j ≡ i) ⊎ (j ≡ i → ⊥) → (slice_index_or (slice_set protocols i s) j no_protocol).is_open ≡ (slice_index_or protocols j no_protocol).is_open
-opened_still protocols i s within same j (inl e) =
-    ap (λ k. (slice_index_or (slice_set protocols i s) k no_protocol).is_open) e ∙ ap (λ (x : ProtocolState). x.is_open) (get_or-set_same protocols i s no_protocol within) ∙ same
-    ∙ ap (λ k. (slice_index_or protocols k no_protocol).is_open) (sym e)
-opened_still protocols i s within same j (inr ne) = ap (λ (x : ProtocolState). x.is_open) (get_or-set_other protocols i j s no_protocol ne)
+protocol_still : {X : Type 0} (get : ProtocolState → X) (protocols : List ProtocolState) (i : ℕ) (s : ProtocolState) → i < length protocols → get s ≡ get (slice_index_or protocols i no_protocol)
+    → (j : ℕ) → (j ≡ i) ⊎ (j ≡ i → ⊥) → get (slice_index_or (slice_set protocols i s) j no_protocol) ≡ get (slice_index_or protocols j no_protocol)
+protocol_still get protocols i s within same j (inl e) =
+    ap (λ k. get (slice_index_or (slice_set protocols i s) k no_protocol)) e ∙ ap get (get_or-set_same protocols i s no_protocol within) ∙ same
+    ∙ ap (λ k. get (slice_index_or protocols k no_protocol)) (sym e)
+protocol_still get protocols i s within same j (inr ne) = ap get (get_or-set_other protocols i j s no_protocol ne)
 
-pub protocol_leaves : (held : HeldView) (i : ℕ) (s : ProtocolState) (pool : PoolView) → i < length held.protocols → i < length held.protocol_pools → s.is_open ≡ (slice_index_or held.protocols i no_protocol).is_open
+pub protocol_leaves : (held : HeldView) (i : ℕ) (s : ProtocolState) (pool : PoolView) → i < length held.protocols → i < length held.protocol_pools → s.kind ≡ (slice_index_or held.protocols i no_protocol).kind → s.is_open ≡ (slice_index_or held.protocols i no_protocol).is_open
     → pool.size ≡ (held_pool held (Binding i)).size → pool.bytes ≡ (held_pool held (Binding i)).bytes → Leaves held (protocol_called held i s pool)
-protocol_leaves held i s pool within there same size bytes = record {
+protocol_leaves held i s pool within there kind same size bytes = record {
   seats = refl;
   shelf = refl;
   port = refl;
+  miniport_kind = refl;
+  protocol_kinds = λ j. protocol_still (λ (x : ProtocolState). x.kind) held.protocols i s within kind j (cases_eq j i);
   protocols = length-set held.protocols i s;
   drivers = refl;
-  opened = λ j. opened_still held.protocols i s within same j (cases_eq j i);
+  opened = λ j. protocol_still (λ (x : ProtocolState). x.is_open) held.protocols i s within same j (cases_eq j i);
   kinds = λ q. refl;
   setups = λ q. refl;
   resting = λ q none. refl;

@@ -34,6 +34,8 @@ stands_start head held o =
         kept = λ m. subst (All IsSized) (sym (o.kept m)) (All-nil IsSized);
       };
       ring = omega (arith, ap length (o.kept Miniport));
+      miniport_kind = o.miniport_kind;
+      protocol_kinds = o.protocol_kinds;
       protocols = o.protocols;
       protocol_pools = o.protocol_pools;
       seated = λ f a there. absurd (none_attached f a (start head).modules.filters refl there);

@@ -14,6 +14,7 @@ use Rattle.journal_types.specs.declared.Row.{Row}
 use Rattle.journal_types.specs.declared.Row.TheVariants as row
 use Rattle.buffer_pools.specs.Views.{ListView}
 use Rattle.stack_rules.specs.declared.Attached.{Attached}
+use Rattle.stack_rules.specs.Heads.{kind_of_binding}
 use Rattle.stack_rules.specs.Net.{Net, Modules, after, after_rows, attached}
 use Rattle.stack_rules.specs.Places.{pool_of, pool_in}
 use Rattle.state_laws.specs.Laws.{IsThere}
@@ -107,6 +108,8 @@ stands_step net now queue queue' held held' loose loose' rows s l plain is agree
       pools = λ m there. let p = s.pools m (there_was net now c m there) in record { size = l.sizes m ∙ p.size ∙ sym (pool_same net now c m); bytes = l.bytes m ∙ p.bytes };
       sized = sized;
       ring = subst (λ (h : StackHead). length held'.miniport.kept ≤ h.port.ring) (sym c.head) ring;
+      miniport_kind = l.miniport_kind ∙ s.miniport_kind ∙ ap (λ (h : StackHead). h.kind) (sym c.head);
+      protocol_kinds = λ i within. l.protocol_kinds i ∙ s.protocol_kinds i (subst (λ (h : StackHead). i < length h.bindings) c.head within) ∙ ap (λ h. kind_of_binding h i) (sym c.head);
       protocols = l.protocols ∙ s.protocols ∙ ap (λ (h : StackHead). length h.bindings) (sym c.head);
       protocol_pools = l.protocol_pools ∙ s.protocol_pools ∙ ap (λ (h : StackHead). length h.bindings) (sym c.head);
       seated = λ f a there. seated_still held held' l a (s.seated f a (ap (λ (ms : Modules). attached f ms.filters) (sym c.modules) ∙ there));

@@ -30,6 +30,8 @@ pub record Leaves (old new : HeldView) : Type 0 where
   pub seats : new.seats ≡ old.seats
   pub shelf : new.shelf ≡ old.shelf
   pub port : new.miniport.port ≡ old.miniport.port
+  pub miniport_kind : new.miniport.kind ≡ old.miniport.kind
+  pub protocol_kinds : (i : ℕ) → (slice_index_or new.protocols i no_protocol).kind ≡ (slice_index_or old.protocols i no_protocol).kind
   pub protocols : length new.protocols ≡ length old.protocols
   pub drivers : length new.filters ≡ length old.filters
   pub opened : (i : ℕ) → (slice_index_or new.protocols i no_protocol).is_open ≡ (slice_index_or old.protocols i no_protocol).is_open

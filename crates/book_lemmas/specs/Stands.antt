@@ -1,5 +1,5 @@
 -- The drivers, the pools and the lists in hand agree with the state, for every stack.
-use Rattle.std.specs.Prelude.{[], ◌≡◌, ℕ, ◌≤◌, false, List, Some, None, All, length, map}
+use Rattle.std.specs.Prelude.{[], ◌≡◌, ℕ, ◌≤◌, ◌<◌, false, List, Some, None, All, length, map, slice_index_or}
 use Rattle.ndis_base.specs.declared.ModuleId.{ModuleId}
 use Rattle.journal_types.specs.declared.PortSetup.{PortSetup}
 use Rattle.journal_types.specs.declared.Turn.{Turn}
@@ -7,6 +7,7 @@ use Rattle.ndis_base.specs.declared.Phase.{Phase}
 use Rattle.ndis_base.specs.declared.Phase.TheVariants as phase
 use Rattle.buffer_pools.specs.Views.{ListView, PoolView}
 use Rattle.stack_rules.specs.declared.Attached.{Attached}
+use Rattle.stack_rules.specs.Heads.{kind_of_binding}
 use Rattle.stack_rules.specs.Net.{Net, attached}
 use Rattle.stack_rules.specs.Places.{pool_of}
 use Rattle.state_laws.specs.Laws.{IsThere}
@@ -15,7 +16,7 @@ use Rattle.hand_lemmas.specs.Frames.{AreSized}
 use Rattle.agenda_items.specs.declared.Carried.{Carried}
 use Rattle.hand_lemmas.specs.Hands.{Agrees}
 use Rattle.agenda_items.specs.declared.Carried.TheVariants.{List as a_list, Status as a_status, Answer as an_answer}
-use Rattle.book_lemmas.specs.Views.{HeldView, filter_at, seat_of, IsVacant, IsPlace, IsOnShelf, held_pool, kept_of, hands_of}
+use Rattle.book_lemmas.specs.Views.{HeldView, no_protocol, filter_at, seat_of, IsVacant, IsPlace, IsOnShelf, held_pool, kept_of, hands_of}
 use Rattle.driver_views.specs.States.{FilterState, ProtocolState}
 
 -- each module that is there has a pool of the size that the rules give it, with room for frames of 1518 bytes
@@ -70,6 +71,8 @@ pub record Stands (net : Net) (queue : List Carried) (held : HeldView) (loose : 
   pub pools : (m : ModuleId) → IsThere net m → IsPoolOf net m (held_pool held m)
   pub sized : AllSized queue held loose
   pub ring : length held.miniport.kept ≤ net.head.port.ring
+  pub miniport_kind : held.miniport.kind ≡ net.head.kind
+  pub protocol_kinds : (i : ℕ) → i < length net.head.bindings → (slice_index_or held.protocols i no_protocol).kind ≡ kind_of_binding net.head i
   pub protocols : length held.protocols ≡ length net.head.bindings
   pub protocol_pools : length held.protocol_pools ≡ length net.head.bindings
   pub seated : (f : ℕ) (a : Attached) → attached f net.modules.filters ≡ Some a → IsSeated held a

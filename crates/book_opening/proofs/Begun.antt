@@ -9,6 +9,7 @@ use Rattle.ndis_base.specs.declared.ProtocolKind.{ProtocolKind}
 use Rattle.ndis_base.specs.declared.ProtocolKind.TheVariants as protocol_kind
 use Rattle.journal_types.specs.declared.StackHead.{StackHead}
 use Rattle.buffer_pools.specs.Views.{ListView, PoolView, live_count}
+use Rattle.stack_rules.specs.Heads.{kind_of_binding}
 use Rattle.stack_rules.specs.Net.{Net, start, after_rows, seen}
 use Rattle.stack_rules.specs.Sound.{Sound}
 use Rattle.state_laws.specs.Laws.{IsThere}
@@ -31,6 +32,8 @@ pub record Holds (head : StackHead) (h : HeldView) : Type 0 where
   pub miniport_pool : h.miniport_pool ≡ record { size = head.port.pool; bytes = 1518; slots = [] }
   pub protocol_pools : h.protocol_pools ≡ map pool_for head.bindings
   pub filter_pools : h.filter_pools ≡ replicate (length h.filters) no_pool
+  pub miniport_kind : h.miniport.kind ≡ head.kind
+  pub protocol_kinds : (i : ℕ) → i < length head.bindings → (slice_index_or h.protocols i no_protocol).kind ≡ kind_of_binding head i
   pub protocols : length h.protocols ≡ length head.bindings
   pub miniport : IsHaltedDriver h.miniport
   pub closed : All IsClosedDriver h.protocols
@@ -70,6 +73,8 @@ opened_held head h o = record {
   kept = kept;
   empty = empty;
   pools = pools;
+  miniport_kind = o.miniport_kind;
+  protocol_kinds = o.protocol_kinds;
   protocols = o.protocols;
   protocol_pools = ap length o.protocol_pools ∙ length-map head.bindings pool_for;
   resting = λ place. all_or IsResting h.filters no_filter place (record { setup = refl; kept = refl }) o.resting;
@@ -116,13 +121,15 @@ opened_book head t h bound n o = record {
 -- what is held, by the parts with which it began
 pub held_as : {F : Type 0} (head : StackHead) (f : F → FilterState) (h : HeldView) (b : Beginning) (given items : List F)
     → h.shelf ≡ b.shelf.items → h.seats ≡ b.seats.items → h.miniport_pool ≡ b.miniport_pool → h.protocol_pools ≡ b.protocol_pools.items → h.filter_pools ≡ b.filter_pools.items
-    → h.filters ≡ map f items → given ≡ items → HasParts head (map f given) b → IsHaltedDriver h.miniport → All IsClosedDriver h.protocols → length h.protocols ≡ length head.bindings → All IsResting (map f items) → Holds head h
-held_as head f h b given items e_shelf e_seats e_pool e_pools e_filter_pools e_filters same p halted closed count resting = record {
+    → h.filters ≡ map f items → given ≡ items → HasParts head (map f given) b → h.miniport.kind ≡ head.kind → ((i : ℕ) → i < length head.bindings → (slice_index_or h.protocols i no_protocol).kind ≡ kind_of_binding head i) → IsHaltedDriver h.miniport → All IsClosedDriver h.protocols → length h.protocols ≡ length head.bindings → All IsResting (map f items) → Holds head h
+held_as head f h b given items e_shelf e_seats e_pool e_pools e_filter_pools e_filters same p kind kinds halted closed count resting = record {
   shelf = e_shelf ∙ p.shelf ∙ ap (λ xs. places_from 0 (map kind_of (map f xs))) same ∙ ap (λ ss. places_from 0 (map kind_of ss)) (sym e_filters);
   seats = e_seats ∙ p.seats;
   miniport_pool = e_pool ∙ p.miniport_pool;
   protocol_pools = e_pools ∙ p.protocol_pools;
   filter_pools = e_filter_pools ∙ p.filter_pools ∙ ap (λ xs. replicate (length (map f xs)) no_pool) same ∙ ap (λ (ss : List FilterState). replicate (length ss) no_pool) (sym e_filters);
+  miniport_kind = kind;
+  protocol_kinds = kinds;
   protocols = count;
   miniport = halted;
   closed = closed;

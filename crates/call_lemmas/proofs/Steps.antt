@@ -135,7 +135,7 @@ in_still {b} {h} {m} {rows} {calls} {log} {t} {x} r t' x' i w plain now logs agr
     (in_row r [] [] t' x' i w plain now (logs m) (λ k other. logs k) agrees sized))
 
 -- how much room a row uses
-used_row : (t t' : TrayView) (r : Row) → t.room.rows ≤ t'.room.rows + 1 → t.room.frames ≤ t'.room.frames + row_frames r → t.room.bytes ≤ t'.room.bytes + row_bytes r
+pub used_row : (t t' : TrayView) (r : Row) → t.room.rows ≤ t'.room.rows + 1 → t.room.frames ≤ t'.room.frames + row_frames r → t.room.bytes ≤ t'.room.bytes + row_bytes r
     → t.slack ≤ t'.slack + cond (is_way r) 1 0 → t.room.turns ≤ t'.room.turns → HasUsed t (r ∷ []) t'
 used_row t t' r rows frames bytes slack turns =
     let many : length (r ∷ []) ≡ 1 = refl in
@@ -156,7 +156,14 @@ turned t r queue slack pool = record (tray.written t r) { queue = queue; slack =
 
 pub wrote : (t : TrayView) (r : Row) (queue : List Carried) (slack : ℕ) (pool : PoolView) → t.slack ≤ slack + cond (is_way r) 1 0 → pool.size ≡ t.pool.size → pool.bytes ≡ t.pool.bytes → Wrote t r (turned t r queue slack pool)
 wrote t r queue slack pool way size bytes = record {
-  net = refl; rows = refl; head = refl; turns = refl; told_by = refl; caller = refl; size = size; bytes = bytes;
+  net = refl;
+  rows = refl;
+  head = refl;
+  turns = refl;
+  told_by = refl;
+  caller = refl;
+  size = size;
+  bytes = bytes;
   used = used_row t (turned t r queue slack pool) r (omega arith) (omega arith) (omega arith) way (omega arith);
 }
 
@@ -196,7 +203,14 @@ in_turned_back {b} {h} {m} {rows} {calls} {log} {t} {x} n status i =
 -- the tray that shows more frames by a row
 framed_wrote : (t : TrayView) (r : Row) (frames : List (List ℕ)) → row_frames r ≡ length frames → row_bytes r ≡ sum_by length frames → is_way r ≡ false → Wrote t r (tray.written (tray.framed t frames) r)
 framed_wrote t r frames many long way = record {
-  net = refl; rows = refl; head = refl; turns = refl; told_by = refl; caller = refl; size = refl; bytes = refl;
+  net = refl;
+  rows = refl;
+  head = refl;
+  turns = refl;
+  told_by = refl;
+  caller = refl;
+  size = refl;
+  bytes = refl;
   used = used_row t (tray.written (tray.framed t frames) r) r (omega arith) (omega (arith, many)) (omega (arith, long)) (omega arith) (omega arith);
 }
 

@@ -1,1 +1,2 @@
 pub mod InCall
+pub mod Served

@@ -7,11 +7,13 @@ use Rattle.std.proofs.lemmas.List.Sums.{count_by_more_yes, count_by_more_no}
 use Rattle.std.proofs.lemmas.List.Elements.{All-nil, All-cons, All-rest}
 use Rattle.std.proofs.lemmas.List.Quantifiers.{position-Some}
 use Rattle.std.proofs.lemmas.Iterator.Adapters.{position_from-zero}
+use Rattle.ndis_base.specs.declared.MiniportKind.{MiniportKind}
+use Rattle.ndis_base.specs.declared.MiniportKind.TheVariants as miniport_kind
 use Rattle.ndis_base.specs.declared.ProtocolKind.{ProtocolKind}
 use Rattle.ndis_base.specs.declared.ProtocolKind.TheVariants as protocol_kind
 use Rattle.journal_types.specs.declared.StackHead.{StackHead}
 use Rattle.driver_views.specs.States.{MiniportState, ProtocolState}
-use Rattle.promise_rules.specs.Drivers.{same_protocol_kind}
+use Rattle.promise_rules.specs.Drivers.{same_miniport_kind, same_protocol_kind}
 use Rattle.rule_basics.proofs.Counts.{one_if, count_by-cons}
 use Rattle.driver_choice.specs.Parts.{PartsView}
 use Rattle.driver_choice.specs.Chosen.{is_miniport, is_protocol, is_for, behind, first_of, with_first, protocols_for, LacksProtocols, Lacks, no_miniport, few_protocols, Chooses}
@@ -360,3 +362,28 @@ lacks_nothing f h head ms ps ps' setups i enough at same same' is yet =
 pub lacks_miniport : {X Y : Type 0} (f : X → MiniportState) (h : Y → ProtocolState) (head : StackHead) (ms : List X) (ps : List Y) → position (is_miniport head.kind) (map f ms) ≡ None
     → Lacks head (record { miniports = map f ms; protocols = map h ps })
 lacks_miniport f h head ms ps none = no_miniport (none_counted (is_miniport head.kind) (map f ms) none)
+
+-- So the drivers are of the kinds that the head names.
+same_miniports : (a b : MiniportKind) → same_miniport_kind a b ≡ true → a ≡ b
+same_miniports miniport_kind.Ring miniport_kind.Ring e = refl
+same_miniports miniport_kind.Ring miniport_kind.Loop e = absurd cc
+same_miniports miniport_kind.Ring miniport_kind.Virtual e = absurd cc
+same_miniports miniport_kind.Loop miniport_kind.Ring e = absurd cc
+same_miniports miniport_kind.Loop miniport_kind.Loop e = refl
+same_miniports miniport_kind.Loop miniport_kind.Virtual e = absurd cc
+same_miniports miniport_kind.Virtual miniport_kind.Ring e = absurd cc
+same_miniports miniport_kind.Virtual miniport_kind.Loop e = absurd cc
+same_miniports miniport_kind.Virtual miniport_kind.Virtual e = refl
+
+pub miniport_of_kind : (kind : MiniportKind) (ms : List MiniportState) (m : MiniportState) (rest : List MiniportState) → first_of (is_miniport kind) ms ≡ Some (m, rest) → m.kind ≡ kind
+miniport_of_kind kind ms m rest e = same_miniports m.kind kind (taken (is_miniport kind) ms m rest e).passes
+
+pub protocols_of_kinds : (d : ProtocolState) (bs : List (ProtocolKind × ℕ)) (ps chosen left : List ProtocolState) → protocols_for bs ps ≡ Some (chosen, left) → (i : ℕ) → i < length bs
+    → (slice_index_or chosen i d).kind ≡ (slice_index_or bs i (protocol_kind.Log, 0)).0
+protocols_of_kinds d [] ps chosen left e i h = absurd (omega (arith, h))
+protocols_of_kinds d (b ∷ bs) ps chosen left e zero h =
+    let f = for_first b bs ps chosen left e in
+    ap (λ cs. (slice_index_or cs 0 d).kind) f.are ∙ same_kinds f.first.kind b.0 (taken (is_protocol b.0) ps f.first f.others f.taken).passes
+protocols_of_kinds d (b ∷ bs) ps chosen left e (suc i) h =
+    let f = for_first b bs ps chosen left e in
+    ap (λ cs. (slice_index_or cs (suc i) d).kind) f.are ∙ protocols_of_kinds d bs f.others f.more left f.later i (omega (arith, h))

@@ -1,5 +1,5 @@
 //! The words of events and replies.
-ghost use Rattle.std.specs.Prelude.{◌≡◌, OnOk, codes, decimal};
+ghost use Rattle.std.specs.Prelude.{◌≡◌, ◌++◌, OnOk, codes, decimal};
 ghost use Rattle.journal_words.specs.Words.{word, spaced, filter_text, frames_text};
 ghost use Rattle.ndis_base.specs.Names.{phase_text};
 ghost use Rattle.journal_types.specs.declared.Event.TheVariants as event;
@@ -9,19 +9,20 @@ use journal_types::{Event, Frames, Refusal, Reply, Setup};
 use journal_words::page::Page;
 use journal_words::programs::push_program;
 use ndis_base::{
-    CrossNo, FilterKind, ListNo, ListStatus, OidKind, OidValue, OutOfMemory, Phase, StatusName,
-    Who, name_of_filter_kind, name_of_list_status, name_of_oid_kind, name_of_phase,
-    name_of_status_name,
+    CrossNo, FilterKind, ListNo, ListStatus, OidKind, OutOfMemory, Phase, StatusName, Who,
+    name_of_filter_kind, name_of_list_status, name_of_oid_kind, name_of_phase, name_of_status_name,
 };
 
-fn push_counted(page: &mut Page, text: &str, number: u64) -> Result<(), OutOfMemory>
-    ensures { OnOk result (page.new ≡ word (word page.old text.now) (decimal number)) }
+/// A text and a number.
+#[inline(always)]
+pub fn push_counted(page: &mut Page, text: &str, number: u64) -> Result<(), OutOfMemory>
+    ensures { OnOk result (page.new ≡ (page.old ++ text.now) ++ decimal number) }
 {
-    page.word(text)?;
-    page.number(number)
+    page.text(text)?;
+    page.digits(number)
 }
 
-fn push_with_filter(page: &mut Page, text: &str, filter: u64) -> Result<(), OutOfMemory>
+pub fn push_with_filter(page: &mut Page, text: &str, filter: u64) -> Result<(), OutOfMemory>
     ensures { OnOk result (page.new ≡ word (word page.old text.now) (filter_text filter)) }
 {
     page.word(text)?;
@@ -46,9 +47,9 @@ pub fn push_who(page: &mut Page, who: Who) -> Result<(), OutOfMemory>
     ensures { OnOk result (page.new ≡ spaced page.old (who_words who)) }
 {
     match who {
-        Who::Own => page.word("own"),
-        Who::Call(lane) => push_counted(page, "call", u64::from(lane.0)),
-        Who::Help(lane) => push_counted(page, "help", u64::from(lane.0)),
+        Who::Own => page.text(" own"),
+        Who::Call(lane) => push_counted(page, " call ", u64::from(lane.0)),
+        Who::Help(lane) => push_counted(page, " help ", u64::from(lane.0)),
     }
 }
 
@@ -61,7 +62,7 @@ fn push_setup(page: &mut Page, setup: &Setup) -> Result<(), OutOfMemory>
     push_program(page, &setup.receive)
 }
 
-fn push_insert(
+pub fn push_insert(
     page: &mut Page,
     kind: FilterKind,
     position: u8,
@@ -75,7 +76,7 @@ fn push_insert(
     push_setup(page, setup)
 }
 
-fn push_replace(
+pub fn push_replace(
     page: &mut Page,
     filter: u64,
     kind: FilterKind,
@@ -96,26 +97,26 @@ fn push_send(
 ) -> Result<(), OutOfMemory>
     ensures { OnOk result (page.new ≡ spaced page.old (event_words (event.Send binding cancel frames.now))) }
 {
-    page.word("send")?;
+    page.text(" send")?;
     page.binding(binding)?;
     page.optional_number(cancel)?;
     page.frames(frames)
 }
 
-fn push_give_back(page: &mut Page, binding: u32, list: ListNo) -> Result<(), OutOfMemory>
+pub fn push_give_back(page: &mut Page, binding: u32, list: ListNo) -> Result<(), OutOfMemory>
     ensures { OnOk result (page.new ≡ spaced page.old (event_words (event.GiveBack binding list))) }
 {
-    page.word("giveback")?;
+    page.text(" giveback")?;
     page.binding(binding)?;
     page.number(list.0)
 }
 
-fn push_ask(
+pub fn push_ask(
     page: &mut Page,
     binding: u32,
     kind: OidKind,
     code: u32,
-    value: &OidValue,
+    value: &[u8],
 ) -> Result<(), OutOfMemory>
     ensures { OnOk result (page.new ≡ spaced page.old (event_words (event.Ask binding kind code value.now))) }
 {
@@ -126,7 +127,7 @@ fn push_ask(
     page.value(value)
 }
 
-fn push_status(page: &mut Page, name: StatusName) -> Result<(), OutOfMemory>
+pub fn push_status(page: &mut Page, name: StatusName) -> Result<(), OutOfMemory>
     ensures { OnOk result (page.new ≡ spaced page.old (event_words (event.Status name))) }
 {
     page.word("status")?;
@@ -149,7 +150,11 @@ fn push_cross_put(
     page.frames(frames)
 }
 
-fn push_cross_done(page: &mut Page, message: CrossNo, status: ListStatus) -> Result<(), OutOfMemory>
+pub fn push_cross_done(
+    page: &mut Page,
+    message: CrossNo,
+    status: ListStatus,
+) -> Result<(), OutOfMemory>
     ensures { OnOk result (page.new ≡ spaced page.old (event_words (event.CrossDone message status))) }
 {
     page.word("cross_done")?;
@@ -157,7 +162,7 @@ fn push_cross_done(page: &mut Page, message: CrossNo, status: ListStatus) -> Res
     page.word(name_of_list_status(status))
 }
 
-fn push_cross_take_up(page: &mut Page, binding: u32, vlan: u16) -> Result<(), OutOfMemory>
+pub fn push_cross_take_up(page: &mut Page, binding: u32, vlan: u16) -> Result<(), OutOfMemory>
     ensures { OnOk result (page.new ≡ spaced page.old (event_words (event.CrossTakeUp binding vlan))) }
 {
     page.word("cross_take_up")?;
@@ -203,17 +208,17 @@ pub fn push_event(page: &mut Page, event: &Event) -> Result<(), OutOfMemory>
         Event::Indicate { frames } => push_with_frames(page, "indicate", frames),
         Event::Lend { frames } => push_with_frames(page, "lend", frames),
         Event::GiveBack { binding, list } => push_give_back(page, *binding, *list),
-        Event::Cancel { id } => push_counted(page, "cancel", u64::from(*id)),
+        Event::Cancel { id } => push_counted(page, " cancel ", u64::from(*id)),
         Event::Ask {
             binding,
             kind,
             code,
             value,
-        } => push_ask(page, *binding, *kind, *code, value),
+        } => push_ask(page, *binding, *kind, *code, value.bytes()),
         Event::Status { name } => push_status(page, *name),
-        Event::Transmit => page.word("transmit"),
-        Event::Pump => page.word("pump"),
-        Event::Drain => page.word("drain"),
+        Event::Transmit => page.text(" transmit"),
+        Event::Pump => page.text(" pump"),
+        Event::Drain => page.text(" drain"),
         Event::BeginPause => page.word("begin_pause"),
         Event::PauseNext => page.word("pause_next"),
         Event::RestartNext => page.word("restart_next"),
@@ -242,7 +247,7 @@ fn push_refusal(page: &mut Page, refusal: Refusal) -> Result<(), OutOfMemory>
         Refusal::WrongPhase { phase } => push_with_phase(page, "WrongPhase", phase),
         Refusal::InitRefused => page.word("InitRefused"),
         Refusal::NotPaused => page.word("NotPaused"),
-        Refusal::Busy { n } => push_counted(page, "Busy", n),
+        Refusal::Busy { n } => push_counted(page, " Busy ", n),
         Refusal::Full => page.word("Full"),
         Refusal::BadPosition => page.word("BadPosition"),
         Refusal::ShelfEmpty => page.word("ShelfEmpty"),
@@ -259,10 +264,10 @@ fn push_refusal(page: &mut Page, refusal: Refusal) -> Result<(), OutOfMemory>
     }
 }
 
-fn push_refused(page: &mut Page, refusal: Refusal) -> Result<(), OutOfMemory>
+pub fn push_refused(page: &mut Page, refusal: Refusal) -> Result<(), OutOfMemory>
     ensures { OnOk result (page.new ≡ spaced (word page.old (codes "refused")) (refusal_words refusal)) }
 {
-    page.word("refused")?;
+    page.text(" refused")?;
     push_refusal(page, refusal)
 }
 
@@ -270,26 +275,26 @@ pub fn push_reply(page: &mut Page, reply: &Reply) -> Result<(), OutOfMemory>
     ensures { OnOk result (page.new ≡ spaced page.old (reply_words reply.now)) }
 {
     match reply {
-        Reply::Ok => page.word("ok"),
+        Reply::Ok => page.text(" ok"),
         Reply::Inserted { filter } => push_with_filter(page, "inserted", *filter),
         Reply::Removed => page.word("removed"),
         Reply::Replaced { filter } => push_with_filter(page, "replaced", *filter),
-        Reply::Sent { list } => push_counted(page, "sent", list.0),
-        Reply::Indicated { list } => push_counted(page, "indicated", list.0),
-        Reply::Lent { list } => push_counted(page, "lent", list.0),
-        Reply::Cancelled { n } => push_counted(page, "cancelled", *n),
-        Reply::Asked { request } => push_counted(page, "asked", request.0),
-        Reply::Wired { list } => push_counted(page, "wired", list.0),
-        Reply::Moved => page.word("moved"),
-        Reply::Idle => page.word("idle"),
+        Reply::Sent { list } => push_counted(page, " sent ", list.0),
+        Reply::Indicated { list } => push_counted(page, " indicated ", list.0),
+        Reply::Lent { list } => push_counted(page, " lent ", list.0),
+        Reply::Cancelled { n } => push_counted(page, " cancelled ", *n),
+        Reply::Asked { request } => push_counted(page, " asked ", request.0),
+        Reply::Wired { list } => push_counted(page, " wired ", list.0),
+        Reply::Moved => page.text(" moved"),
+        Reply::Idle => page.text(" idle"),
         Reply::Next => page.word("next"),
         Reply::Paused => page.word("paused"),
         Reply::Running => page.word("running"),
-        Reply::Waiting { n } => push_counted(page, "waiting", *n),
+        Reply::Waiting { n } => push_counted(page, " waiting ", *n),
         Reply::Halted => page.word("halted"),
-        Reply::Taken { message, .. } => push_counted(page, "taken", message.0),
+        Reply::Taken { message, .. } => push_counted(page, " taken ", message.0),
         Reply::Nothing => page.word("nothing"),
-        Reply::Crossed { list } => push_counted(page, "crossed", list.0),
+        Reply::Crossed { list } => push_counted(page, " crossed ", list.0),
         Reply::Refused(refusal) => push_refused(page, *refusal),
     }
 }

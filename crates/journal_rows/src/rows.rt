@@ -1,16 +1,16 @@
 //! The words of rows.
-ghost use Rattle.std.specs.Prelude.{◌≡◌, ◌∷◌, [], OnOk, codes, decimal, map};
+ghost use Rattle.std.specs.Prelude.{◌≡◌, ◌++◌, ◌∷◌, [], OnOk, codes, decimal, map};
 ghost use Rattle.ndis_base.specs.Names.{direction_text};
 ghost use Rattle.journal_types.specs.declared.Row.TheVariants as row;
 ghost use Rattle.journal_words.specs.Words.{word, spaced, module_text, optional_text, filter_text};
 ghost use Rattle.journal_rows.specs.Rows.{handler_text, how_text, way_text, issued_words, pass_words, phase_words, config_words, parent_text, out_words, row_words};
 
-use journal_types::{FilterList, Frames, Handler, How, OutWay, PassWay, PhaseOf, Row, Target, Way};
+use journal_types::{Frames, Handler, How, OutWay, PassWay, PhaseOf, Row, Target, Way};
 use journal_words::page::Page;
 use ndis_base::{
-    ConfigNo, CrossNo, Direction, ListNo, ListStatus, ModuleId, OidKind, OidNo, OidStatus,
-    OidValue, Origin, OutOfMemory, StatusName, StatusNo, name_of_direction, name_of_list_status,
-    name_of_oid_kind, name_of_oid_status, name_of_phase, name_of_state, name_of_status_name,
+    ConfigNo, CrossNo, Direction, ListNo, ListStatus, ModuleId, OidKind, OidNo, OidStatus, Origin,
+    OutOfMemory, StatusName, StatusNo, name_of_direction, name_of_list_status, name_of_oid_kind,
+    name_of_oid_status, name_of_phase, name_of_state, name_of_status_name,
 };
 
 fn name_of_handler(handler: Handler) -> &'static str
@@ -25,7 +25,7 @@ fn name_of_handler(handler: Handler) -> &'static str
     }
 }
 
-fn name_of_how(how: How) -> &'static str
+pub fn name_of_how(how: How) -> &'static str
     ensures { result.now ≡ how_text how }
 {
     match how {
@@ -34,7 +34,7 @@ fn name_of_how(how: How) -> &'static str
     }
 }
 
-fn name_of_way(way: Way) -> &'static str
+pub fn name_of_way(way: Way) -> &'static str
     ensures { result.now ≡ way_text way }
 {
     match way {
@@ -47,13 +47,13 @@ fn push_issued(page: &mut Page, origin: Origin, frames: &Frames) -> Result<(), O
     ensures { OnOk result (page.new ≡ spaced page.old (issued_words origin frames.now)) }
 {
     match origin {
-        Origin::Root => page.word("-")?,
+        Origin::Root => page.text(" -")?,
         Origin::Clone(list) => {
-            page.word("clone")?;
+            page.text(" clone")?;
             page.number(list.0)?;
         }
         Origin::Copy(list) => {
-            page.word("copy")?;
+            page.text(" copy")?;
             page.number(list.0)?;
         }
     }
@@ -65,20 +65,20 @@ fn push_pass(page: &mut Page, way: PassWay, target: Target) -> Result<(), OutOfM
 {
     match way {
         PassWay::Down => {
-            page.word("down")?;
+            page.text(" down")?;
             page.target(target)
         }
         PassWay::Done(status) => {
-            page.word("done")?;
+            page.text(" done")?;
             page.target(target)?;
             page.word(name_of_list_status(status))
         }
         PassWay::Up => {
-            page.word("up")?;
+            page.text(" up")?;
             page.target(target)
         }
         PassWay::Back(status) => {
-            page.word("back")?;
+            page.text(" back")?;
             page.target(target)?;
             page.word(name_of_list_status(status))
         }
@@ -94,7 +94,7 @@ fn push_phase(page: &mut Page, of: PhaseOf) -> Result<(), OutOfMemory>
             page.word(name_of_state(state))
         }
         PhaseOf::Stack(phase) => {
-            page.word("s")?;
+            page.text(" s")?;
             page.word(name_of_phase(phase))
         }
     }
@@ -109,11 +109,11 @@ fn push_filters(page: &mut Page, filters: &[u64]) -> Result<(), OutOfMemory>
     Ok(())
 }
 
-fn push_config(page: &mut Page, filters: &FilterList) -> Result<(), OutOfMemory>
+fn push_config(page: &mut Page, filters: &[u64]) -> Result<(), OutOfMemory>
     ensures { OnOk result (page.new ≡ spaced page.old (config_words filters.now)) }
 {
-    match filters.items() {
-        [] => page.word("-"),
+    match filters {
+        [] => page.text(" -"),
         [first, more @ ..] => {
             page.filter(*first)?;
             push_filters(page, more)
@@ -125,7 +125,7 @@ fn push_parent(page: &mut Page, parent: Option<OidNo>) -> Result<(), OutOfMemory
     ensures { OnOk result (page.new ≡ word page.old (parent_text parent)) }
 {
     match parent {
-        None => page.word("-"),
+        None => page.text(" -"),
         Some(request) => page.number(request.0),
     }
 }
@@ -135,28 +135,29 @@ fn push_out(page: &mut Page, way: OutWay, frames: &Frames) -> Result<(), OutOfMe
 {
     match way {
         OutWay::Down(list) => {
-            page.word("down")?;
+            page.text(" down")?;
             page.number(list.0)?;
             page.frames(frames)
         }
         OutWay::Up => {
-            page.word("up")?;
-            page.word("-")?;
+            page.text(" up")?;
+            page.text(" -")?;
             page.frames(frames)
         }
     }
 }
 
-/// A word and the list that the row is about.
-fn push_list(page: &mut Page, text: &str, list: ListNo) -> Result<(), OutOfMemory>
-    ensures { OnOk result (page.new ≡ word (word page.old text.now) (decimal list.0)) }
+/// A text and the list that the row is about.
+#[inline(always)]
+pub fn push_list(page: &mut Page, text: &str, list: ListNo) -> Result<(), OutOfMemory>
+    ensures { OnOk result (page.new ≡ (page.old ++ text.now) ++ decimal list.0) }
 {
-    page.word(text)?;
-    page.number(list.0)
+    page.text(text)?;
+    page.digits(list.0)
 }
 
 /// What an issued list is, up to its configuration.
-fn push_new_list(
+pub fn push_new_list(
     page: &mut Page,
     list: ListNo,
     owner: ModuleId,
@@ -164,7 +165,7 @@ fn push_new_list(
 ) -> Result<(), OutOfMemory>
     ensures { OnOk result (page.new ≡ spaced page.old (codes "issue" ∷ decimal list.0 ∷ module_text owner ∷ decimal config.0 ∷ [])) }
 {
-    push_list(page, "issue", list)?;
+    push_list(page, " issue ", list)?;
     page.module(owner)?;
     page.number(config.0)
 }
@@ -184,7 +185,7 @@ fn push_issue(
     push_issued(page, origin, frames)
 }
 
-fn push_give(
+pub fn push_give(
     page: &mut Page,
     list: ListNo,
     module: ModuleId,
@@ -192,26 +193,31 @@ fn push_give(
 ) -> Result<(), OutOfMemory>
     ensures { OnOk result (page.new ≡ spaced page.old (row_words (row.Give list «module» handler))) }
 {
-    push_list(page, "give", list)?;
+    push_list(page, " give ", list)?;
     page.module(module)?;
     page.word(name_of_handler(handler))
 }
 
-fn push_passed(page: &mut Page, list: ListNo, way: PassWay, to: Target) -> Result<(), OutOfMemory>
+pub fn push_passed(
+    page: &mut Page,
+    list: ListNo,
+    way: PassWay,
+    to: Target,
+) -> Result<(), OutOfMemory>
     ensures { OnOk result (page.new ≡ spaced page.old (row_words (row.Pass list way to))) }
 {
-    push_list(page, "pass", list)?;
+    push_list(page, " pass ", list)?;
     push_pass(page, way, to)
 }
 
-fn push_keep(page: &mut Page, list: ListNo, module: ModuleId) -> Result<(), OutOfMemory>
+pub fn push_keep(page: &mut Page, list: ListNo, module: ModuleId) -> Result<(), OutOfMemory>
     ensures { OnOk result (page.new ≡ spaced page.old (row_words (row.Keep list «module»))) }
 {
-    push_list(page, "keep", list)?;
+    push_list(page, " keep ", list)?;
     page.module(module)
 }
 
-fn push_turn_back(
+pub fn push_turn_back(
     page: &mut Page,
     list: ListNo,
     module: ModuleId,
@@ -219,12 +225,12 @@ fn push_turn_back(
 ) -> Result<(), OutOfMemory>
     ensures { OnOk result (page.new ≡ spaced page.old (row_words (row.TurnBack list «module» status))) }
 {
-    push_list(page, "turnback", list)?;
+    push_list(page, " turnback ", list)?;
     page.module(module)?;
     page.word(name_of_list_status(status))
 }
 
-fn push_home(
+pub fn push_home(
     page: &mut Page,
     list: ListNo,
     owner: ModuleId,
@@ -232,7 +238,7 @@ fn push_home(
 ) -> Result<(), OutOfMemory>
     ensures { OnOk result (page.new ≡ spaced page.old (row_words (row.Home list owner status))) }
 {
-    push_list(page, "home", list)?;
+    push_list(page, " home ", list)?;
     page.module(owner)?;
     page.word(name_of_list_status(status))
 }
@@ -240,7 +246,7 @@ fn push_home(
 fn push_wire(page: &mut Page, list: ListNo, frames: &Frames) -> Result<(), OutOfMemory>
     ensures { OnOk result (page.new ≡ spaced page.old (row_words (row.Wire list frames.now))) }
 {
-    push_list(page, "wire", list)?;
+    push_list(page, " wire ", list)?;
     page.frames(frames)
 }
 
@@ -253,43 +259,43 @@ fn push_deliver(
 ) -> Result<(), OutOfMemory>
     ensures { OnOk result (page.new ≡ spaced page.old (row_words (row.Deliver list binding how frames.now))) }
 {
-    push_list(page, "deliver", list)?;
+    push_list(page, " deliver ", list)?;
     page.binding(binding)?;
     page.word(name_of_how(how))?;
     page.frames(frames)
 }
 
-fn push_phase_row(page: &mut Page, of: PhaseOf) -> Result<(), OutOfMemory>
+pub fn push_phase_row(page: &mut Page, of: PhaseOf) -> Result<(), OutOfMemory>
     ensures { OnOk result (page.new ≡ spaced page.old (row_words (row.Phase of))) }
 {
-    page.word("phase")?;
+    page.text(" phase")?;
     push_phase(page, of)
 }
 
-fn push_config_row(
+pub fn push_config_row(
     page: &mut Page,
     config: ConfigNo,
-    filters: &FilterList,
+    filters: &[u64],
 ) -> Result<(), OutOfMemory>
     ensures { OnOk result (page.new ≡ spaced page.old (row_words (row.Config config filters.now))) }
 {
-    page.word("config")?;
+    page.text(" config")?;
     page.number(config.0)?;
     push_config(page, filters)
 }
 
-fn push_oid_issue(
+pub fn push_oid_issue(
     page: &mut Page,
     request: OidNo,
     parent: Option<OidNo>,
     binding: u32,
     kind: OidKind,
     code: u32,
-    value: &OidValue,
+    value: &[u8],
 ) -> Result<(), OutOfMemory>
     ensures { OnOk result (page.new ≡ spaced page.old (row_words (row.OidIssue request parent binding kind code value.now))) }
 {
-    page.word("oidissue")?;
+    page.text(" oidissue")?;
     page.number(request.0)?;
     push_parent(page, parent)?;
     page.binding(binding)?;
@@ -298,29 +304,29 @@ fn push_oid_issue(
     page.value(value)
 }
 
-fn push_oid_give(page: &mut Page, request: OidNo, module: ModuleId) -> Result<(), OutOfMemory>
+pub fn push_oid_give(page: &mut Page, request: OidNo, module: ModuleId) -> Result<(), OutOfMemory>
     ensures { OnOk result (page.new ≡ spaced page.old (row_words (row.OidGive request «module»))) }
 {
-    page.word("oidgive")?;
+    page.text(" oidgive")?;
     page.number(request.0)?;
     page.module(module)
 }
 
-fn push_oid_done(
+pub fn push_oid_done(
     page: &mut Page,
     request: OidNo,
     status: OidStatus,
-    value: &OidValue,
+    value: &[u8],
 ) -> Result<(), OutOfMemory>
     ensures { OnOk result (page.new ≡ spaced page.old (row_words (row.OidDone request status value.now))) }
 {
-    page.word("oiddone")?;
+    page.text(" oiddone")?;
     page.number(request.0)?;
     page.word(name_of_oid_status(status))?;
     page.value(value)
 }
 
-fn push_status(
+pub fn push_status(
     page: &mut Page,
     number: StatusNo,
     name: StatusName,
@@ -328,16 +334,16 @@ fn push_status(
 ) -> Result<(), OutOfMemory>
     ensures { OnOk result (page.new ≡ spaced page.old (row_words (row.Status number name to))) }
 {
-    page.word("status")?;
+    page.text(" status")?;
     page.number(number.0)?;
     page.word(name_of_status_name(name))?;
     page.target(to)
 }
 
-fn push_seen(page: &mut Page, number: StatusNo, module: ModuleId) -> Result<(), OutOfMemory>
+pub fn push_seen(page: &mut Page, number: StatusNo, module: ModuleId) -> Result<(), OutOfMemory>
     ensures { OnOk result (page.new ≡ spaced page.old (row_words (row.Seen number «module»))) }
 {
-    page.word("seen")?;
+    page.text(" seen")?;
     page.number(number.0)?;
     page.module(module)
 }
@@ -350,7 +356,7 @@ fn push_cross_out(
 ) -> Result<(), OutOfMemory>
     ensures { OnOk result (page.new ≡ spaced page.old (row_words (row.CrossOut message way frames.now))) }
 {
-    page.word("crossout")?;
+    page.text(" crossout")?;
     page.number(message.0)?;
     push_out(page, way, frames)
 }
@@ -364,7 +370,7 @@ fn push_cross_in(
 ) -> Result<(), OutOfMemory>
     ensures { OnOk result (page.new ≡ spaced page.old (row_words (row.CrossIn stack message way frames.now))) }
 {
-    page.word("crossin")?;
+    page.text(" crossin")?;
     page.number(u64::from(stack))?;
     page.number(message.0)?;
     page.word(name_of_way(way))?;
@@ -412,7 +418,7 @@ pub fn push_row(page: &mut Page, row: &Row) -> Result<(), OutOfMemory>
             frames,
         } => push_deliver(page, *list, *binding, *how, frames),
         Row::Phase { of } => push_phase_row(page, *of),
-        Row::Config { config, filters } => push_config_row(page, *config, filters),
+        Row::Config { config, filters } => push_config_row(page, *config, filters.items()),
         Row::OidIssue {
             request,
             parent,
@@ -420,13 +426,21 @@ pub fn push_row(page: &mut Page, row: &Row) -> Result<(), OutOfMemory>
             kind,
             code,
             value,
-        } => push_oid_issue(page, *request, *parent, *binding, *kind, *code, value),
+        } => push_oid_issue(
+            page,
+            *request,
+            *parent,
+            *binding,
+            *kind,
+            *code,
+            value.bytes(),
+        ),
         Row::OidGive { request, module } => push_oid_give(page, *request, *module),
         Row::OidDone {
             request,
             status,
             value,
-        } => push_oid_done(page, *request, *status, value),
+        } => push_oid_done(page, *request, *status, value.bytes()),
         Row::Status { number, name, to } => push_status(page, *number, *name, *to),
         Row::Seen { number, module } => push_seen(page, *number, *module),
         Row::CrossOut {

@@ -1,11 +1,12 @@
 //! Text that is being written, word by word.
-ghost use Rattle.std.specs.Prelude.{◌≡◌, ◌*◌, ◌/◌, ◌%◌, ◌<◌, ◌≤◌, ◌++◌, [], OnOk, IfOk, codes, decimal, false, length, if◌then◌else◌};
+ghost use Rattle.std.specs.Prelude.{◌≡◌, ◌*◌, ◌/◌, ◌%◌, ◌+◌, ◌<◌, ◌≤◌, ◌++◌, [], OnOk, IfOk, codes, decimal, false, length, if◌then◌else◌};
 ghost use Rattle.std.specs.Fmt.{digit_glyph};
 ghost use Rattle.journal_words.specs.Words.{word, hex_text, value_text, code_text, frames_text, more_frames_text, optional_text, filter_text, binding_text, module_text, target_text, handlers_text};
+ghost use Rattle.journal_words.specs.Digits.{four_last};
 
 use itoa::Buffer;
 use journal_types::{Frames, Target};
-use ndis_base::{Frame, Handlers, ModuleId, OidValue, OutOfMemory};
+use ndis_base::{Frame, Handlers, ModuleId, OutOfMemory};
 use std::alloc::Global;
 use std::marker::Model;
 
@@ -13,6 +14,14 @@ use std::marker::Model;
 const BLOCK: usize = 64;
 
 const DIGITS: usize = 128;
+
+/// The last digit of a number in decimal.
+#[inline(always)]
+fn last_digit(number: u64) -> u8
+    ensures { result ≡ 48 + number % 10 }
+{
+    b'0' + (number % 10) as u8
+}
 
 #[inline(always)]
 fn digit_of(number: u8) -> u8
@@ -92,12 +101,88 @@ impl Page {
         Ok(())
     }
 
-    /// Adds a number in decimal.
-    pub fn digits(&mut self, number: u64) -> Result<(), OutOfMemory>
+    #[tactic(auto, using(crate::proofs::Decimals::one_digit))]
+    fn one_digit(&mut self, number: u64) -> Result<(), OutOfMemory>
+        requires { number < 10 }
+        ensures { OnOk result (self.new ≡ self.old ++ decimal number) }
+    {
+        self.bytes.extend_from_slice(&[last_digit(number)])?;
+        Ok(())
+    }
+
+    #[tactic(auto, using(crate::proofs::Decimals::two_digits))]
+    fn two_digits(&mut self, number: u64) -> Result<(), OutOfMemory>
+        requires small { number < 100 }
+        requires large { 10 ≤ number }
+        ensures { OnOk result (self.new ≡ self.old ++ decimal number) }
+    {
+        self.bytes
+            .extend_from_slice(&[last_digit(number / 10), last_digit(number)])?;
+        Ok(())
+    }
+
+    #[tactic(auto, using(crate::proofs::Decimals::three_digits))]
+    fn three_digits(&mut self, number: u64) -> Result<(), OutOfMemory>
+        requires small { number < 1000 }
+        requires large { 100 ≤ number }
+        ensures { OnOk result (self.new ≡ self.old ++ decimal number) }
+    {
+        self.bytes.extend_from_slice(&[
+            last_digit(number / 100),
+            last_digit(number / 10),
+            last_digit(number),
+        ])?;
+        Ok(())
+    }
+
+    /// Adds the last four digits of a number.
+    fn four_digits(&mut self, number: u64) -> Result<(), OutOfMemory>
+        ensures { OnOk result (self.new ≡ self.old ++ four_last number) }
+    {
+        self.bytes.extend_from_slice(&[
+            last_digit(number / 1000),
+            last_digit(number / 100),
+            last_digit(number / 10),
+            last_digit(number),
+        ])?;
+        Ok(())
+    }
+
+    #[tactic(auto, using(crate::proofs::Decimals::four_digits))]
+    fn few_digits(&mut self, number: u64) -> Result<(), OutOfMemory>
+        requires { number < 10000 }
+        ensures { OnOk result (self.new ≡ self.old ++ decimal number) }
+    {
+        if number < 10 {
+            self.one_digit(number)
+        } else if number < 100 {
+            self.two_digits(number)
+        } else if number < 1000 {
+            self.three_digits(number)
+        } else {
+            self.four_digits(number)
+        }
+    }
+
+    fn many_digits(&mut self, number: u64) -> Result<(), OutOfMemory>
         ensures { OnOk result (self.new ≡ self.old ++ decimal number) }
     {
         let mut digits = Buffer::new();
         self.text(digits.format(number))
+    }
+
+    /// Adds a number in decimal.
+    pub fn digits(&mut self, number: u64) -> Result<(), OutOfMemory>
+        ensures { OnOk result (self.new ≡ self.old ++ decimal number) }
+    {
+        if number < 10_000 {
+            return self.few_digits(number);
+        }
+        if number < 100_000_000 {
+            self.few_digits(number / 10_000)?;
+            return self.four_digits(number);
+        }
+        self.many_digits(number)
     }
 
     fn hex_block(&mut self, bytes: &[u8]) -> Result<(), OutOfMemory>
@@ -143,7 +228,7 @@ impl Page {
         ensures { OnOk result (self.new ≡ word self.old (optional_text number)) }
     {
         match number {
-            None => self.word("-"),
+            None => self.text(" -"),
             Some(number) => self.number(u64::from(number)),
         }
     }
@@ -151,14 +236,14 @@ impl Page {
     pub fn filter(&mut self, number: u64) -> Result<(), OutOfMemory>
         ensures { OnOk result (self.new ≡ word self.old (filter_text number)) }
     {
-        self.word("f")?;
+        self.text(" f")?;
         self.digits(number)
     }
 
     pub fn binding(&mut self, number: u32) -> Result<(), OutOfMemory>
         ensures { OnOk result (self.new ≡ word self.old (binding_text number)) }
     {
-        self.word("b")?;
+        self.text(" b")?;
         self.digits(u64::from(number))
     }
 
@@ -166,7 +251,7 @@ impl Page {
         ensures { OnOk result (self.new ≡ word self.old (module_text module_id)) }
     {
         match module_id {
-            ModuleId::Miniport => self.word("m"),
+            ModuleId::Miniport => self.text(" m"),
             ModuleId::Filter(number) => self.filter(number),
             ModuleId::Binding(number) => self.binding(number),
         }
@@ -177,7 +262,7 @@ impl Page {
     {
         match target {
             Target::Module(module_id) => self.module(module_id),
-            Target::Bindings => self.word("b"),
+            Target::Bindings => self.text(" b"),
         }
     }
 
@@ -202,20 +287,15 @@ impl Page {
         self.hex(&bytes)
     }
 
-    fn hex_or_dash(&mut self, bytes: &[u8]) -> Result<(), OutOfMemory>
-        ensures { OnOk result (self.new ≡ word self.old (value_text bytes.now)) }
+    /// Adds the bytes of an OID value, or a dash where there is none.
+    pub fn value(&mut self, value: &[u8]) -> Result<(), OutOfMemory>
+        ensures { OnOk result (self.new ≡ word self.old (value_text value.now)) }
     {
-        if bytes.is_empty() {
+        if value.is_empty() {
             return self.word("-");
         }
         self.text(" ")?;
-        self.hex(bytes)
-    }
-
-    pub fn value(&mut self, value: &OidValue) -> Result<(), OutOfMemory>
-        ensures { OnOk result (self.new ≡ word self.old (value_text value.now)) }
-    {
-        self.hex_or_dash(value.bytes())
+        self.hex(value)
     }
 
     fn more_frames(&mut self, frames: &[Frame]) -> Result<(), OutOfMemory>

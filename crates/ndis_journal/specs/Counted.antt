@@ -1,37 +1,12 @@
 -- The rows that the last line of a journal counts.
-use Rattle.std.specs.Prelude.{ℕ, ◌-◌, ◌^◌, Bool, true, false, List, min, sum_by, count_by}
-use Rattle.journal_types.specs.declared.Turn.{Turn}
+use Rattle.std.specs.Prelude.{Bool}
 use Rattle.journal_types.specs.declared.Row.{Row}
-use Rattle.journal_types.specs.declared.Row.TheVariants.{Issue, Home, Wire, Deliver}
+use Rattle.journal_lines.specs.Counted.{is_issue, is_home, is_wire, is_deliver}
 use Rattle.ndis_journal.specs.declared.counts.Counted.{Counted}
 use Rattle.ndis_journal.specs.declared.counts.Counted.TheVariants as counted
-
-abbrev pub is_issue : Row → Bool
-is_issue (Issue list owner config direction cancel origin frames) = true
-is_issue _ = false
-
-abbrev pub is_home : Row → Bool
-is_home (Home list owner status) = true
-is_home _ = false
-
-abbrev pub is_wire : Row → Bool
-is_wire (Wire list frames) = true
-is_wire _ = false
-
-abbrev pub is_deliver : Row → Bool
-is_deliver (Deliver list binding how frames) = true
-is_deliver _ = false
 
 abbrev pub test_of : Counted → Row → Bool
 test_of counted.Issue = is_issue
 test_of counted.Home = is_home
 test_of counted.Wire = is_wire
 test_of counted.Deliver = is_deliver
-
--- how many rows of a turn pass a test
-abbrev pub turn_rows_of : (Row → Bool) → Turn → ℕ
-turn_rows_of test turn = count_by test turn.rows
-
--- how many rows of all turns pass a test; past the last value of 64 bits a count stands still
-abbrev pub rows_of : (Row → Bool) → List Turn → ℕ
-rows_of test turns = min (sum_by (turn_rows_of test) turns) (2 ^ 64 - 1)

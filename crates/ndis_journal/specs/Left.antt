@@ -4,7 +4,8 @@ use Rattle.ndis_base.specs.declared.ProtocolKind.{ProtocolKind}
 use Rattle.journal_store.specs.Written.{Written}
 use Rattle.journal_types.specs.declared.Turn.{Turn}
 use Rattle.journal_types.specs.declared.Row.{Row}
-use Rattle.ndis_journal.specs.Text.{lines, binding_lines, turn_lines, row_line, end_line}
+use Rattle.journal_lines.specs.Text.{binding_lines, turn_lines, row_line, end_line}
+use Rattle.ndis_journal.specs.Text.{lines}
 use Rattle.ndis_journal.specs.declared.lines.Stage.{Stage}
 use Rattle.ndis_journal.specs.declared.lines.Stage.TheVariants.{Head, Bindings, Rows, Done}
 

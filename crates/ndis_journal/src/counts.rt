@@ -1,6 +1,7 @@
 //! How many rows of a kind a journal has.
 ghost use Rattle.std.specs.Prelude.{◌≡◌, ◌≤◌, length, count_by, if◌then◌else◌};
-ghost use Rattle.ndis_journal.specs.Counted.{test_of, rows_of};
+ghost use Rattle.journal_lines.specs.Counted.{rows_of};
+ghost use Rattle.ndis_journal.specs.Counted.{test_of};
 
 use journal_types::{Row, Turn};
 

@@ -12,7 +12,7 @@ use outside_io::{Failed, Sink, write_whole};
 use std::alloc::Global;
 
 /// The room of the page, in bytes.
-const PAGE: usize = 65_536;
+pub const PAGE: usize = 65_536;
 
 /// A page with so many bytes is full. Behind them a line of eight of the longest frames has room.
 const FULL: usize = 32_768;
@@ -47,7 +47,7 @@ impl From<OutOfMemory> for ReportFault {
 }
 
 /// Writes a page that is full, and empties it.
-fn write_full<K: Sink>(sink: &mut K, page: &mut Page) -> Result<(), Failed>
+pub fn write_full<K: Sink>(sink: &mut K, page: &mut Page) -> Result<(), Failed>
     ensures whole { OnOk result (Wrote (K.holds sink.old) (K.holds sink.new) page.new page.old) }
     ensures prefix { OnErr result (AddsPrefix (K.holds sink.old) (K.holds sink.new) page.old) }
     ensures failed { OnErr result (Rose (K.faults sink.old) (K.faults sink.new)) }
@@ -123,7 +123,8 @@ fn write_refusal<K: Sink>(
     Ok(())
 }
 
-fn write_refusals<K: Sink>(
+/// Adds the lines of refused calls to the page, and writes it where it is full.
+pub fn write_refusals<K: Sink>(
     sink: &mut K,
     page: &mut Page,
     refused: &[Refused],

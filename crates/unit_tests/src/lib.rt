@@ -1,6 +1,9 @@
 //! Tests of libraries through their public functions, a module for each library.
 #![tactic(auto)]
 
+pub mod flat_copies;
+#[cfg(test)]
+mod flat_texts;
 #[cfg(test)]
 mod lists_in_pools;
 #[cfg(test)]

@@ -1,6 +1,7 @@
 use Rattle.std.proofs.Common.{length, arith, ap, refl, ◌∙◌, ◌≡◌, subst, sym, map}
 use Rattle.driver_views.specs.States.{FilterState}
-use Rattle.driver_choice.proofs.Choice.{search_of, lacks_nothing, lacks_miniport, within_of, taken_at, each_of, all_taken, all_chosen, chosen_count}
+use Rattle.driver_choice.proofs.Choice.{search_of, lacks_nothing, lacks_miniport, within_of, taken_at, each_of, all_taken, all_chosen, chosen_count, miniport_of_kind, protocols_of_kinds}
+use Rattle.book_lemmas.specs.Views.{no_protocol}
 use Rattle.book_opening.specs.Opened.{IsHaltedDriver, IsClosedDriver, kind_of}
 use Rattle.book_opening.proofs.Begun.{opened_book, held_as}
 use Rattle.book_opening.proofs.opening.open.Goals as goal
@@ -32,6 +33,7 @@ returns-clause-opened g c =
     opened_book c.args.head _ _ c.requires.bound (rw (c.assemble.ensures.tray) c.in-Ok-begin.ensures.tray)
     (held_as _ g.F.FilterCalls.state _ _ _ _ (ap (λ v. v.items) c.assemble.ensures.shelf) (ap (λ v. v.items) c.assemble.ensures.seats) c.assemble.ensures.miniport_pool (ap (λ v. v.items) c.assemble.ensures.protocol_pools) (ap (λ v. v.items) c.assemble.ensures.filter_pools)
     (ap (λ v. map g.F.FilterCalls.state v.items) (c.assemble.ensures.filters ∙ c.replace-filters.ensures.value)) (c.as_slice-3.ensures.value) c.in-Ok-begin.ensures
+    (miniport_of_kind c.args.head.kind _ _ _ takes.first) (protocols_of_kinds no_protocol c.args.head.bindings _ _ _ takes.each)
     (all_taken IsHaltedDriver _ _ _ _ c.requires.idle.miniports takes.first).0
     (all_chosen IsClosedDriver _ _ _ _ c.requires.idle.protocols takes.each).0
     (chosen_count _ _ _ _ takes.each) c.requires.idle.filters)

@@ -1,8 +1,8 @@
 use Rattle.std.proofs.Common.{◌∷◌, ap, ◌∙◌, rules}
 use Rattle.std.specs.Prelude.{codes, decimal}
 use Rattle.journal_words.specs.Words.{spaced}
-use Rattle.ndis_journal.specs.Text.{end_line, count_words}
-use Rattle.ndis_journal.proofs.Behind.{behind, line-ends}
+use Rattle.journal_lines.specs.Text.{end_line, count_words}
+use Rattle.journal_lines.proofs.Behind.{behind, line-ends}
 use Rattle.ndis_journal.proofs.lines.push_end.Goals as goal
 
 pub returns : goal.returns

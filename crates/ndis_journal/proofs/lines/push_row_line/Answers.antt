@@ -1,6 +1,6 @@
 use Rattle.journal_rows.specs.Rows.{row_words}
-use Rattle.ndis_journal.specs.Text.{row_line}
-use Rattle.ndis_journal.proofs.Behind.{behind-none, line-ends}
+use Rattle.journal_lines.specs.Text.{row_line}
+use Rattle.journal_lines.proofs.Behind.{behind-none, line-ends}
 use Rattle.ndis_journal.proofs.lines.push_row_line.Goals as goal
 
 pub returns : goal.returns

@@ -1,8 +1,8 @@
 use Rattle.std.proofs.Common.{◌∷◌, []}
 use Rattle.std.specs.Prelude.{codes, decimal}
 use Rattle.journal_events.specs.Events.{who_words, event_words, reply_words}
-use Rattle.ndis_journal.specs.Text.{turn_line}
-use Rattle.ndis_journal.proofs.Behind.{behind-four, line-ends}
+use Rattle.journal_lines.specs.Text.{turn_line}
+use Rattle.journal_lines.proofs.Behind.{behind-four, line-ends}
 use Rattle.ndis_journal.proofs.lines.push_turn.Goals as goal
 
 pub returns : goal.returns

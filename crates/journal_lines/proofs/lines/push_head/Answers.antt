@@ -1,7 +1,7 @@
 use Rattle.std.specs.Prelude.{codes}
-use Rattle.ndis_journal.specs.Text.{head_line, stack_words, port_words, link_words, vlan_words}
-use Rattle.ndis_journal.proofs.Behind.{behind-four, line-ends}
-use Rattle.ndis_journal.proofs.lines.push_head.Goals as goal
+use Rattle.journal_lines.specs.Text.{head_line, stack_words, port_words, link_words, vlan_words}
+use Rattle.journal_lines.proofs.Behind.{behind-four, line-ends}
+use Rattle.journal_lines.proofs.lines.push_head.Goals as goal
 
 pub returns : goal.returns
 unfolding head_line

@@ -1,0 +1,4 @@
+pub mod Sending
+pub mod Firsts
+pub mod Homing
+pub mod Upward

@@ -1,0 +1,10 @@
+//! What is done at bindings: a binding sends, and its sends come home.
+#![tactic(auto)]
+
+pub mod homes;
+pub mod sends;
+pub mod ups;
+
+pub use crate::homes::work_owner;
+pub use crate::sends::send;
+pub use crate::ups::{return_untaken, turn_back_paused};

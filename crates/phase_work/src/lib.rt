@@ -1,0 +1,2 @@
+//! A stack pauses, restarts, is initialised and halts.
+#![tactic(auto)]
