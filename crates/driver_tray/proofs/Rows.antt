@@ -1,5 +1,5 @@
 -- One more row of the turn under way.
-use Rattle.std.proofs.Common.{◌≡◌, ℕ, ◌+◌, ◌-◌, ◌*◌, ◌≤◌, List, [], ◌∷◌, ◌++◌, Option, None, Some, All, length, sum_by, take, drop, min, refl, sym, ap, ◌∙◌, arith}
+use Rattle.std.proofs.Common.{◌≡◌, ℕ, ◌+◌, ◌-◌, ◌*◌, ◌≤◌, List, [], ◌∷◌, ◌++◌, Option, None, Some, All, length, sum_by, drop, min, refl, sym, ap, ◌∙◌, arith}
 use Rattle.std.proofs.lemmas.List.{length-take, length-drop}
 use Rattle.std.proofs.lemmas.List.Elements.{All-head, All-tail}
 use Rattle.std.proofs.lemmas.List.Sums.{sum_by-cons}
@@ -25,7 +25,8 @@ use Rattle.flat_journal.specs.Rooms.{Uses, no_room}
 use Rattle.flat_journal.specs.Shown.{row_of}
 use Rattle.flat_journal.proofs.Grown.{grown_by_frames, event_of_same, reply_of_same, event_within_grown, reply_within_grown}
 use Rattle.stack_rules.specs.Net.{Net, start, told, after, after_rows, after_turn, after_turns, seen}
-use Rattle.stack_ledger.specs.Bare.{LedgerView, bare, with_net, with_issued, with_wired}
+use Rattle.stack_ledger.specs.Bare.{LedgerView, bare, with_net, with_issued, with_wired, noted}
+use Rattle.stack_ledger.proofs.Bare.{bare_after}
 use Rattle.driver_tray.specs.declared.telling.Telling.{Telling}
 use Rattle.driver_tray.specs.Tray.{IsSteady, begun_by, ended, written, framed, issue_row}
 use Rattle.driver_tray.specs.Inside.{told_of, ToldWithin, net_of, shown_of}
@@ -194,4 +195,12 @@ ledger_wired l k net net' list frames many before now count e =
     ap (λ v. v.net) now
     ∙ ap (with_wired many) before
     ∙ ap (λ n. with_wired n (bare net)) (sym count)
+    ∙ sym (ap bare e)
+
+-- and after a row that a ledger notes as it is
+pub ledger_noted : (l k : LedgerView) (net net' : Net) (r : Row) → l.net ≡ bare net → k ≡ noted l r → net' ≡ after net r → k.net ≡ bare net'
+ledger_noted l k net net' r before now e =
+    ap (λ v. v.net) now
+    ∙ ap (λ n. bare (after n r)) before
+    ∙ sym (bare_after net r)
     ∙ sym (ap bare e)

@@ -1,6 +1,6 @@
 -- The tray: the journal and the turn under way, the state after its rows, what is on its way, and the pool of the
 -- module that is called. A driver's calls into the stack are written into it.
-use Rattle.std.specs.Prelude.{ℕ, ◌≡◌, ◌+◌, ◌-◌, ◌<◌, ◌^◌, List, [], ◌∷◌, ◌++◌, Option, Some, None, length, sum_by}
+use Rattle.std.specs.Prelude.{ℕ, ◌≡◌, ◌-◌, ◌<◌, ◌^◌, List, [], ◌∷◌, ◌++◌, Option, Some, None, length, sum_by}
 use Rattle.ndis_base.specs.declared.ModuleId.{ModuleId}
 use Rattle.ndis_base.specs.declared.ListNo.{ListNo}
 use Rattle.ndis_base.specs.declared.ListStatus.{ListStatus}
@@ -12,6 +12,8 @@ use Rattle.journal_types.specs.declared.Event.{Event}
 use Rattle.journal_types.specs.declared.Reply.{Reply}
 use Rattle.journal_types.specs.declared.Handler.{Handler}
 use Rattle.journal_types.specs.declared.How.{How}
+use Rattle.journal_types.specs.declared.PhaseOf.{PhaseOf}
+use Rattle.journal_types.specs.declared.PhaseOf.TheVariants as of
 use Rattle.journal_types.specs.declared.Row.{Row}
 use Rattle.journal_types.specs.declared.Row.TheVariants as row
 use Rattle.journal_types.specs.declared.Turn.{Turn}
@@ -27,6 +29,7 @@ use Rattle.stack_rules.specs.Net.{Net, start, told, after}
 use Rattle.stack_rules.specs.Places.{position}
 use Rattle.stack_rules.specs.Targets.{onward, homeward_by}
 use Rattle.stack_rules.specs.Outcome.{list_no, config_no}
+use Rattle.stack_ledger.specs.Bare.{filter_number}
 
 pub record TrayView : Type 0 where
   pub head : StackHead
@@ -213,3 +216,8 @@ pub record Clones (t : TrayView) (l : ListView) (made : List (List ℕ)) (t' : T
   pub frames : clone.frames ≡ made
   pub issues : Issues t.pool clone t'.pool
   pub tray : t' ≡ cloned_on t l clone t'.pool
+
+-- the number of the filter whose state a row tells; 0 for another
+abbrev pub phase_filter : PhaseOf → ℕ
+phase_filter (of.Module m s) = filter_number m
+phase_filter (of.Stack p) = 0

@@ -2,6 +2,7 @@
 #![tactic(auto)]
 
 pub mod lists;
+pub mod states;
 pub mod telling;
 pub mod tray;
 pub mod turns;

@@ -1,4 +1,4 @@
-use Rattle.std.proofs.Common.{◌≡◌, ◌+◌, ◌++◌, length, take}
+use Rattle.std.proofs.Common.{◌≡◌, ◌++◌, length, take}
 use Rattle.std.specs.Prelude.{sum_by}
 use Rattle.flat_journal.specs.Rooms.{Uses, no_room}
 use Rattle.driver_tray.proofs.tray.push_list.Given as goal

@@ -2,7 +2,7 @@ use Rattle.std.proofs.Common.{◌≡◌, None, refl, sym, ap, ◌∙◌, subst}
 use Rattle.journal_types.specs.declared.Turn.{Turn}
 use Rattle.flat_journal.specs.Flat.{FlatView}
 use Rattle.flat_journal.specs.Shown.{event_of, reply_of}
-use Rattle.stack_rules.specs.Net.{Net, seen, told}
+use Rattle.stack_rules.specs.Net.{seen, told}
 use Rattle.stack_ledger.specs.Bare.{bare}
 use Rattle.driver_tray.specs.Tray.{TrayView, begun_by, turn_of, ended}
 use Rattle.driver_tray.specs.Inside.{net_of, told_of}

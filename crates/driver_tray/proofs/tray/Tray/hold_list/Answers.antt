@@ -1,6 +1,5 @@
 use Rattle.std.proofs.Common.{◌≡◌, sym, ap, ◌∙◌, subst}
 use Rattle.flat_journal.specs.Flat.{FlatView}
-use Rattle.stack_rules.specs.Net.{Net}
 use Rattle.stack_ledger.specs.Bare.{bare}
 use Rattle.driver_tray.specs.Tray.{TrayView, framed}
 use Rattle.driver_tray.specs.Inside.{net_of, shown_of, ToldWithin}

@@ -1,4 +1,4 @@
-use Rattle.std.proofs.Common.{◌*◌, ◌≤◌, arith}
+use Rattle.std.proofs.Common.{arith}
 use Rattle.driver_tray.proofs.Rows.{fits_bytes}
 use Rattle.driver_tray.proofs.tray.Tray.issue.Goals as goal
 

@@ -1,9 +1,9 @@
-use Rattle.std.proofs.Common.{◌≡◌, ◌+◌, sym, ap, ◌∙◌, subst}
+use Rattle.std.proofs.Common.{◌≡◌, sym, ap, ◌∙◌, subst}
 use Rattle.journal_types.specs.declared.Row.{Row}
 use Rattle.frame_arena.specs.Spans.{frames_at, SpanWithin}
 use Rattle.flat_journal.specs.Flat.{FlatView}
 use Rattle.flat_journal.specs.Payloads.{Payloads}
-use Rattle.stack_rules.specs.Net.{Net, after}
+use Rattle.stack_rules.specs.Net.{after}
 use Rattle.driver_tray.specs.Tray.{TrayView, issue_row, written}
 use Rattle.driver_tray.specs.Inside.{net_of, ToldWithin}
 use Rattle.driver_tray.proofs.Rows.{row_more, journal_written, net_written, shown_written, ledger_issued, span_count}

@@ -2,7 +2,7 @@ use Rattle.std.proofs.Common.{◌≡◌, sym, ap, ◌∙◌, subst}
 use Rattle.journal_types.specs.declared.Row.{Row}
 use Rattle.flat_journal.specs.Payloads.{Payloads}
 use Rattle.flat_journal.specs.Shown.{row_of}
-use Rattle.stack_rules.specs.Net.{Net, after}
+use Rattle.stack_rules.specs.Net.{after}
 use Rattle.flat_journal.specs.Flat.{FlatView}
 use Rattle.stack_ledger.specs.Bare.{bare}
 use Rattle.driver_tray.specs.Tray.{TrayView, written}
