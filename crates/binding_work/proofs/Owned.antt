@@ -25,7 +25,7 @@ use Rattle.book_parts.proofs.Events.{Begins, begins_roomed, unmoved}
 use Rattle.binding_work.proofs.Owning.{one_event}
 use Rattle.binding_work.proofs.Sending.{IsBound, IsDone}
 use Rattle.hand_lemmas.specs.Frames.{AreSized}
-use Rattle.driver_tray.specs.Tray.{TrayView}
+use Rattle.driver_tray.specs.Tray.{TrayView, IsLow}
 use Rattle.driver_calls.specs.Rooms.{CanCount}
 use Rattle.binding_work.specs.Homes.{BeginsWithList}
 use Rattle.binding_work.specs.Owns.{MayOwn, BeginsUp, TrayRoomed, OwnsFirst, IsTakenBy}
@@ -54,7 +54,7 @@ taken_own t t1 t2 l w to d e f =
     }
 
 pub may_own : (s : ProtocolState) (t1 t2 : TrayView) (l : ListView) (pool : PoolView) → CanCount called.Receive s.did.served → pool.bytes ≡ 1518 → IsTakenUp t1 t2 l → 4 ≤ t1.room.rows → 8 ≤ t1.room.frames → 8 * 1518 ≤ t1.room.bytes → 2 ≤ t1.slack
-    → t1.net.next.list < 2 ^ 60 → MayOwn s l t2 pool
+    → IsLow t1.net → MayOwn s l t2 pool
 may_own s t1 t2 l pool count size taken rows frames bytes slack low = record {
   count = count;
   sized = taken.sized;
@@ -63,7 +63,7 @@ may_own s t1 t2 l pool count size taken rows frames bytes slack low = record {
   slack = subst (λ (x : TrayView). 2 ≤ x.slack) taken.takes slack;
   frames = subst (λ (x : TrayView). 8 ≤ x.room.frames) taken.takes frames;
   bytes = subst (λ (x : TrayView). 8 * 1518 ≤ x.room.bytes) taken.takes bytes;
-  low = subst (λ (x : TrayView). x.net.next.list < 2 ^ 60) taken.takes low;
+  low = subst (λ (x : TrayView). IsLow x.net) taken.takes low;
 }
 
 pub count_own : (p s : ProtocolState) (served : Served) → p ≡ s → served ≡ s.did.served → served.receive < 2 ^ 60 → CanCount called.Receive p.did.served

@@ -95,7 +95,7 @@ one_event old t mid b l s' k i bound turns begins running taken kind r =
     let keeps : Bool = settled_is.keeps in
     let does : Bool = does_echo s (called_with t m pool) in
     let ends = ends_call (protocol_called old.held b s' mid.pool) t.pool k g settled_is.in_call (protocol_is_called old.held b s' mid.pool bound.protocols bound.pools)
-    (protocol_leaves old.held b s' mid.pool bound.protocols bound.pools (ap (λ (x : ProtocolState). x.is_open) r.same) settled_is.in_call.size settled_is.in_call.bytes) k.stands.ring
+    (protocol_leaves old.held b s' mid.pool bound.protocols bound.pools (ap (λ (x : ProtocolState). x.kind) r.same) (ap (λ (x : ProtocolState). x.is_open) r.same) settled_is.in_call.size settled_is.in_call.bytes) k.stands.ring
     (did_protocol old.held s' mid.pool settled_is.in_call bound.protocols (refl, tt) (subst (λ (x : ProtocolState). Counts m (call m called.Receive) (l.frames ∷ []) s.did x.did) (sym r.same) (taker_counts b called.Receive l s.did))) in
     let choice : Choice = record any_choice { keeps = keeps } in
     let outcome_is = pump_is old.tray.net n.x keeps n.first in

@@ -13,7 +13,7 @@ use Rattle.driver_views.specs.States.{ProtocolState}
 use Rattle.hand_lemmas.specs.Frames.{AreSized}
 use Rattle.stack_rules.specs.Deliveries.{takers}
 use Rattle.book_lemmas.specs.Views.{BookView}
-use Rattle.driver_tray.specs.Tray.{TrayView, delivered}
+use Rattle.driver_tray.specs.Tray.{TrayView, delivered, IsLow}
 use Rattle.driver_calls.specs.Rooms.{CanCount}
 use Rattle.driver_calls.specs.Protocols.{IsReceived}
 use Rattle.binding_work.specs.Sends.{called_with}
@@ -27,7 +27,7 @@ pub record MayOwn (s : ProtocolState) (l : ListView) (t : TrayView) (pool : Pool
   pub slack : 2 ≤ t.slack
   pub frames : 8 ≤ t.room.frames
   pub bytes : 8 * 1518 ≤ t.room.bytes
-  pub low : t.net.next.list < 2 ^ 60
+  pub low : IsLow t.net
 
 -- the list is delivered to the protocol of a binding
 pub record Owns (b : ℕ) (l : ListView) (s : ProtocolState) (t : TrayView) (pool : PoolView) (s' : ProtocolState) (t' : TrayView) (pool' : PoolView) : Type 0 where
