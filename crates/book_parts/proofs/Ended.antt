@@ -41,18 +41,18 @@ ends old mid who e answer k i d may =
     let turn : Turn = turn_of mid.tray who e answer in
     let is : old.tray.net ≡ seen old.tray.head old.tray.turns = idle_state old k i in
     let next : Next (seen old.tray.head old.tray.turns) turn = record {
-          choice = d.choice;
-          asked = ap (λ (h : StackHead). may_ask h e) (head_seen old.tray.head old.tray.turns) ∙ may;
-          reply = d.reply ∙ ap (λ (n : Net). (outcome n e d.choice).reply) is;
-          rows = d.rows ∙ ap (λ (n : Net). (outcome n e d.choice).rows) is;
-        } in
+      choice = d.choice;
+      asked = ap (λ (h : StackHead). may_ask h e) (head_seen old.tray.head old.tray.turns) ∙ may;
+      reply = d.reply ∙ ap (λ (n : Net). (outcome n e d.choice).reply) is;
+      rows = d.rows ∙ ap (λ (n : Net). (outcome n e d.choice).rows) is;
+    } in
     let seen_is : seen mid.tray.head mid.tray.turns ≡ seen old.tray.head old.tray.turns = ap (λ h. seen h mid.tray.turns) d.goes.head ∙ ap (seen old.tray.head) d.goes.turns in
     let tells : told (seen old.tray.head old.tray.turns) e answer ≡ begun_by (seen old.tray.head old.tray.turns) mid.tray.told_by =
-        ap (λ (n : Net). told n e answer) (sym is) ∙ sym d.tells ∙ ap (λ (n : Net). begun_by n mid.tray.told_by) is in
+    ap (λ (n : Net). told n e answer) (sym is) ∙ sym d.tells ∙ ap (λ (n : Net). begun_by n mid.tray.told_by) is in
     let follows : Follows mid.tray.head (mid.tray.turns ++ turn ∷ []) None mid.tray.net [] =
-        follows_turn turn d.book.follows refl
-        (ap (λ (n : Net). told n e answer) seen_is ∙ tells ∙ ap (λ (n : Net). begun_by n mid.tray.told_by) (sym seen_is))
-        (subst (λ (n : Net). Next n turn) (sym seen_is) next) in
+    follows_turn turn d.book.follows refl
+    (ap (λ (n : Net). told n e answer) seen_is ∙ tells ∙ ap (λ (n : Net). begun_by n mid.tray.told_by) (sym seen_is))
+    (subst (λ (n : Net). Next n turn) (sym seen_is) next) in
     record {
       book = record { stands = d.book.stands; follows = follows; bound = d.book.bound };
       idle = record { rows = refl; told_by = refl };

@@ -57,7 +57,12 @@ begins_roomed old t same room slack = record {
 -- a module is called, with its pool
 pub begins_called : {old t : TrayView} {front : List Carried} (m : ModuleId) (pool : PoolView) → Begins old t front → Begins old (record t { caller = m; pool = pool }) front
 begins_called {old} {t} m pool g = record {
-  head = g.head; turns = g.turns; told_by = g.told_by; net = g.net; rows = g.rows; queue = g.queue;
+  head = g.head;
+  turns = g.turns;
+  told_by = g.told_by;
+  net = g.net;
+  rows = g.rows;
+  queue = g.queue;
   used = record { rows_used = g.used.rows_used; frames = g.used.frames; bytes = g.used.bytes; slack = g.used.slack; turns = g.used.turns };
 }
 
