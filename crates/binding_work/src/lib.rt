@@ -1,7 +1,8 @@
-//! What is done at bindings: a binding sends, and its sends come home.
+//! What is done at bindings: a binding sends, its sends come home, and a receive is delivered or goes back.
 #![tactic(auto)]
 
 pub mod homes;
+pub mod lends;
 pub mod owns;
 pub mod sends;
 pub mod ups;
