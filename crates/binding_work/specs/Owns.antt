@@ -79,4 +79,4 @@ pub record MayLend (s : ProtocolState) (l : ListView) (t : TrayView) (pool : Poo
   pub slack : 2 ≤ t.slack
   pub frames : 8 ≤ t.room.frames
   pub bytes : 8 * 1518 ≤ t.room.bytes
-  pub low : t.net.next.list < 2 ^ 60
+  pub low : IsLow t.net
