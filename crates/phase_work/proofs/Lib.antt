@@ -1,1 +1,2 @@
+pub mod EachBinding
 pub mod Written

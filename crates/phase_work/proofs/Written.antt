@@ -1,20 +1,18 @@
 -- Rows of phases: they call and log nothing, and the book stands again.
-use Rattle.std.proofs.Common.{◌≡◌, ℕ, ◌+◌, ◌-◌, ◌≤◌, Bool, true, false, cond, List, [], ◌∷◌, ◌++◌, Some, length, sum_by, count_by, slice_index_or, refl, sym, ap, ◌∙◌, subst, arith, append_assoc, append-nil}
+use Rattle.std.proofs.Common.{◌≡◌, ℕ, ◌≤◌, false, cond, List, [], ◌∷◌, ◌++◌, length, count_by, refl, sym, ap, ◌∙◌, subst, arith, append_assoc, append-nil}
 use Rattle.std.proofs.lemmas.List.Sums.{sum_by-cons}
 use Rattle.ndis_base.specs.declared.ModuleId.{ModuleId}
 use Rattle.ndis_base.specs.declared.ModuleId.TheVariants.{Miniport, Filter, Binding}
 use Rattle.journal_types.specs.declared.Row.{Row}
 use Rattle.journal_types.specs.declared.Row.TheVariants as row
-use Rattle.journal_types.specs.declared.StackHead.{StackHead}
 use Rattle.journal_store.specs.Sizes.{row_bytes}
 use Rattle.stack_rules.specs.Net.{Net, after, after_rows}
-use Rattle.promise_rules.specs.declared.Called.{Called}
 use Rattle.promise_rules.specs.Calls.{is_call_of, logged_at}
 use Rattle.driver_views.specs.States.{Record, times}
 use Rattle.hand_lemmas.specs.Hands.{Agrees}
 use Rattle.driver_tray.specs.Tray.{TrayView, written}
-use Rattle.book_lemmas.specs.Views.{BookView, HeldView, hands_of, filter_at, no_protocol, seat_of, IsVacant}
-use Rattle.book_lemmas.specs.Did.{calls_in, logs_in, IsServed, IsIdle as CountsNone, Did}
+use Rattle.book_lemmas.specs.Views.{BookView, HeldView, hands_of}
+use Rattle.book_lemmas.specs.Did.{calls_in, logs_in, IsServed, Did}
 use Rattle.book_lemmas.specs.Leaves.{ArePhases, Leaves}
 use Rattle.book_lemmas.specs.Stands.{Stands, AllSized, DriversFit}
 use Rattle.book_lemmas.specs.Turns.{HasUsed, row_frames, is_way}

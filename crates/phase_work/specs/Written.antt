@@ -2,7 +2,12 @@
 use Rattle.std.specs.Prelude.{◌≡◌, ℕ, zero, suc, ◌+◌, List, [], ◌∷◌, Some, slice_index_or}
 use Rattle.ndis_base.specs.declared.ModuleId.{ModuleId}
 use Rattle.ndis_base.specs.declared.ModuleId.TheVariants.{Binding}
+use Rattle.ndis_base.specs.declared.ModuleState.TheVariants as state
+use Rattle.ndis_base.specs.declared.Phase.TheVariants as phase
+use Rattle.journal_types.specs.declared.PhaseOf.TheVariants as of
 use Rattle.journal_types.specs.declared.Row.{Row}
+use Rattle.journal_types.specs.declared.Row.TheVariants as row
+use Rattle.stack_rules.specs.Pauses.{state_rows}
 use Rattle.driver_tray.specs.Tray.{TrayView, written}
 use Rattle.book_lemmas.specs.Views.{HeldView, filter_at, no_protocol}
 
@@ -20,3 +25,7 @@ pub record CountsNothing (old new : HeldView) : Type 0 where
 abbrev pub bindings_from : ℕ → ℕ → List ModuleId
 bindings_from b zero = []
 bindings_from b (suc n) = Binding b ∷ bindings_from (b + 1) n
+
+-- the rows of a pause that begins, by how many bindings there are
+abbrev pub begin_rows : ℕ → List Row
+begin_rows n = row.Phase (of.Stack phase.Pausing) ∷ state_rows (state.Pausing ∷ []) (bindings_from 0 n)

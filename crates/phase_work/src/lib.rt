@@ -1,3 +1,5 @@
-//! What rows of phases leave: they call nobody and log nothing, and a stack's book stands after them. It has
-//! no code yet: definitions stand in specs/, lemmas in proofs/.
+//! A stack pauses and restarts: the rows of phases, which call nobody and log nothing, and the events that
+//! write them.
 #![tactic(auto)]
+
+pub mod floors;
