@@ -43,20 +43,21 @@ module _ (head : StackHead) (turns : List Turn) (s : Sound head turns) (bound : 
   clash : (l : LiveList) → lists net.things ≡ [] → look net l.list.0 ≡ Some l → ⊥
   clash l none f = cc (sym (ap (list_of l.list.0) none) ∙ f)
 
-  listed_may : (l : LiveList) → look net l.list.0 ≡ Some l → IsListed net → MayOwn (is_down l.direction) l.owner
-  listed_may l f k = placed_may l (Each-found (IsPlaced net) l.list.0 (lists net.things) l k.placed f)
+  listed_placed : (l : LiveList) → look net l.list.0 ≡ Some l → IsListed net → IsPlaced net l
+  listed_placed l f k = Each-found (IsPlaced net) l.list.0 (lists net.things) l k.placed f
 
-  may : (l : LiveList) → look net l.list.0 ≡ Some l → MayOwn (is_down l.direction) l.owner
-  may l f = by net.phase refl
+  -- each list stands where it may, in a stack that is Halted too, since there are none
+  pub placed : (l : LiveList) → look net l.list.0 ≡ Some l → IsPlaced net l
+  placed l f = by net.phase refl
     where
-      by : (p : Phase) → net.phase ≡ p → MayOwn (is_down l.direction) l.owner
+      by : (p : Phase) → net.phase ≡ p → IsPlaced net l
       by phase.Halted e = absurd (clash l (none_halted net held e) f)
-      by phase.Paused e = listed_may l f (lists_stand head turns s bound (λ h. cc))
-      by phase.Restarting e = listed_may l f (lists_stand head turns s bound (λ h. cc))
-      by phase.Running e = listed_may l f (lists_stand head turns s bound (λ h. cc))
-      by phase.Pausing e = listed_may l f (lists_stand head turns s bound (λ h. cc))
+      by phase.Paused e = listed_placed l f (lists_stand head turns s bound (λ h. cc))
+      by phase.Restarting e = listed_placed l f (lists_stand head turns s bound (λ h. cc))
+      by phase.Running e = listed_placed l f (lists_stand head turns s bound (λ h. cc))
+      by phase.Pausing e = listed_placed l f (lists_stand head turns s bound (λ h. cc))
 
 pub each_is_owned : EachIsOwned
 each_is_owned head turns s bound =
     let net : Net = seen head turns in
-    Each-implies (λ l. look net l.list.0 ≡ Some l) (IsOwned net) (λ l f. record { there = (right_journal head bound turns s l.list.0 l f).1; may = may head turns s bound l f }) (lists net.things) (all_found (lists net.things) (held_journal head turns s).clear.apart)
+    Each-implies (λ l. look net l.list.0 ≡ Some l) (IsOwned net) (λ l f. record { there = (right_journal head bound turns s l.list.0 l f).1; may = placed_may head turns s bound l (placed head turns s bound l f) }) (lists net.things) (all_found (lists net.things) (held_journal head turns s).clear.apart)

@@ -4,6 +4,7 @@ use Rattle.ndis_base.specs.declared.ModuleId.{ModuleId}
 use Rattle.ndis_base.specs.declared.ModuleId.TheVariants.{Miniport, Filter, Binding}
 use Rattle.journal_types.specs.declared.StackHead.{StackHead}
 use Rattle.journal_types.specs.declared.Turn.{Turn}
+use Rattle.journal_types.specs.declared.PassWay.{PassWay}
 use Rattle.journal_types.specs.declared.PassWay.TheVariants as way
 use Rattle.journal_types.specs.declared.Target.{Target}
 use Rattle.journal_types.specs.declared.Target.TheVariants.{Module}
@@ -57,3 +58,24 @@ pub record IsOwned (net : Net) (l : LiveList) : Type 0 where
 -- After each sound journal of a stack that has a binding.
 abbrev pub EachIsOwned : Type 0
 EachIsOwned = (head : StackHead) (turns : List Turn) → Sound head turns → 1 ≤ length head.bindings → Each (IsOwned (seen head turns)) (lists (seen head turns).things)
+
+-- the ways to a module: all ways to a filter, done sends to a binding, sends down and receives back to the miniport
+abbrev pub LeadsTo : PassWay → ModuleId → Type 0
+LeadsTo by (Filter f) = Unit {0}
+LeadsTo (way.Done status) (Binding b) = Unit {0}
+LeadsTo by (Binding b) = ⊥
+LeadsTo way.Down Miniport = Unit {0}
+LeadsTo (way.Back status) Miniport = Unit {0}
+LeadsTo by Miniport = ⊥
+
+-- a list on its way to a module goes to one of the configuration, by a way that leads there
+abbrev pub IsBoundFor : Net → Stand → Type 0
+IsBoundFor net (stand.Passed by (Module m)) = IsThere net m × LeadsTo by m
+IsBoundFor net _ = Unit {0}
+
+abbrev pub IsBound : Net → LiveList → Type 0
+IsBound net l = IsBoundFor net l.stand
+
+-- After each sound journal of a stack that has a binding.
+abbrev pub EachIsBound : Type 0
+EachIsBound = (head : StackHead) (turns : List Turn) → Sound head turns → 1 ≤ length head.bindings → Each (IsBound (seen head turns)) (lists (seen head turns).things)
