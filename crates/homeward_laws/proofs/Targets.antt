@@ -1,18 +1,25 @@
 -- A list on its way to a module goes to one of the configuration, by a way that leads there.
-use Rattle.std.proofs.Common.{◌≡◌, inl, inr, ℕ, Bool, true, false, Some, subst}
+use Rattle.std.proofs.Common.{◌≡◌, ◌≤◌, inl, inr, ℕ, Bool, true, false, List, Some, length, sym, subst}
 use Rattle.ndis_base.specs.declared.ModuleId.{ModuleId}
 use Rattle.ndis_base.specs.declared.ModuleId.TheVariants.{Miniport, Filter, Binding}
+use Rattle.journal_types.specs.declared.StackHead.{StackHead}
+use Rattle.journal_types.specs.declared.Turn.{Turn}
 use Rattle.journal_types.specs.declared.PassWay.{PassWay}
 use Rattle.journal_types.specs.declared.PassWay.TheVariants as way
 use Rattle.journal_types.specs.declared.Target.TheVariants.{Module, Bindings}
 use Rattle.stack_rules.specs.declared.LiveList.{LiveList}
 use Rattle.stack_rules.specs.declared.Stand.{Stand}
 use Rattle.stack_rules.specs.declared.Stand.TheVariants as stand
+use Rattle.stack_rules.specs.declared.Thing.TheVariants as thing
 use Rattle.stack_rules.specs.Tests.{is_down}
 use Rattle.stack_rules.specs.Net.{Net, Modules, lists, seen}
+use Rattle.stack_rules.specs.Places.{agenda_first}
 use Rattle.stack_rules.specs.Rewires.{is_in}
+use Rattle.stack_rules.specs.Sound.{Sound}
+use Rattle.rule_basics.specs.Live.{Each}
 use Rattle.rule_basics.proofs.Each.{Each-found, Each-implies}
 use Rattle.pause_laws.proofs.Turns.{held_journal}
+use Rattle.pause_laws.proofs.Works.{each_away}
 use Rattle.place_laws.specs.Kept.{StandsPlaced}
 use Rattle.place_laws.proofs.Keepers.{all_found}
 use Rattle.place_laws.proofs.Looks.{look}
@@ -72,3 +79,9 @@ each_is_bound head turns s bound =
     (Each-found (GoesHome net.modules) l.list.0 (lists net.things) l (each_goes_home head turns s bound) f)
     (Each-found (IsOwned net) l.list.0 (lists net.things) l (each_is_owned head turns s bound) f))
     (lists net.things) (all_found (lists net.things) (held_journal head turns s).clear.apart)
+
+-- the first list on its way
+pub first_bound : (head : StackHead) (turns : List Turn) (net : Net) → net ≡ seen head turns → Sound head turns → 1 ≤ length head.bindings → (x : LiveList) (by : PassWay) (m : ModuleId) → agenda_first net ≡ Some (thing.List x) → x.stand ≡ stand.Passed by (Module m) → IsThere net m × LeadsTo by m
+first_bound head turns net is s bound x by m first stands =
+    let each : Each (IsBound net) (lists net.things) = subst (λ (n : Net). Each (IsBound n) (lists n.things)) (sym is) (each_is_bound head turns s bound) in
+    subst (IsBoundFor net) stands (each_away (IsBound net) net.things x each first)
