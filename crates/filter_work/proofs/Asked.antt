@@ -1,11 +1,10 @@
 -- What is known where a list is first on its way and goes to a filter: the filter is attached and sits at a place, and the
 -- list may be worked there.
-use Rattle.std.proofs.Common.{◌≡◌, ℕ, ◌+◌, ◌<◌, ◌==◌, ◌||◌, inl, inr, Bool, true, false, cond, List, [], ◌∷◌, Option, Some, None, IsSome, length, refl, sym, ap, ◌∙◌, subst, arith}
+use Rattle.std.proofs.Common.{◌≡◌, ℕ, true, false, List, [], ◌∷◌, Option, Some, None, IsSome, refl, sym, ap, ◌∙◌, subst}
 use Rattle.std.proofs.lemmas.List.Elements.{All-head}
 use Rattle.ndis_base.specs.declared.Direction.{Direction}
 use Rattle.ndis_base.specs.declared.Direction.TheVariants as direction
-use Rattle.ndis_base.specs.declared.ModuleId.{ModuleId}
-use Rattle.ndis_base.specs.declared.ModuleId.TheVariants.{Miniport, Filter}
+use Rattle.ndis_base.specs.declared.ModuleId.TheVariants.{Filter}
 use Rattle.journal_types.specs.declared.PassWay.{PassWay}
 use Rattle.journal_types.specs.declared.PassWay.TheVariants as way
 use Rattle.journal_types.specs.declared.Setup.{Setup}
@@ -17,8 +16,8 @@ use Rattle.stack_rules.specs.declared.Attached.{Attached}
 use Rattle.stack_rules.specs.declared.LiveList.{LiveList}
 use Rattle.stack_rules.specs.declared.Stand.TheVariants as stand
 use Rattle.stack_rules.specs.declared.Thing.TheVariants as thing
-use Rattle.stack_rules.specs.Net.{Net, lists, list_of}
-use Rattle.stack_rules.specs.Places.{agenda_first, pool_of, above, position}
+use Rattle.stack_rules.specs.Net.{Net, lists}
+use Rattle.stack_rules.specs.Places.{agenda_first, pool_of}
 use Rattle.stack_rules.specs.Tests.{is_down}
 use Rattle.agenda_items.specs.declared.Carried.{Carried}
 use Rattle.agenda_items.specs.declared.Carried.TheVariants.{List as a_list}
@@ -27,14 +26,13 @@ use Rattle.hand_lemmas.proofs.Tells.{next_list}
 use Rattle.book_lemmas.specs.Between.{IsBetween}
 use Rattle.book_lemmas.specs.Stands.{Stands, IsSeated, IsPoolOf, IsCarriedSized}
 use Rattle.book_lemmas.specs.Views.{BookView, HeldView, IsPlace, filter_at, pool_at, seat_of, held_pool, hands_of}
-use Rattle.book_lemmas.proofs.Between.{IsAtFilter, GoesDown, GoesUp, not_halted, listed, first_placed, goes_down, goes_up, goes_done, goes_back}
+use Rattle.book_lemmas.proofs.Between.{IsAtFilter, GoesDown, GoesUp, not_halted, listed, goes_down, goes_up, goes_done, goes_back}
 use Rattle.book_lemmas.proofs.Between.GoesDown.{to_filter}
 use Rattle.book_lemmas.proofs.Between.GoesUp.{up_filter}
 use Rattle.call_lemmas.proofs.Homewards.{KeepsOriginal}
 use Rattle.pause_laws.proofs.Works.{each_away}
 use Rattle.place_laws.specs.Kept.{HasOriginal}
 use Rattle.rule_basics.specs.Live.{Each}
-use Rattle.ndis_base.specs.declared.ListNo.{ListNo}
 use Rattle.homeward_laws.proofs.Targets.{first_bound}
 use Rattle.lent_laws.specs.Lent.{is_lent, IsOwned}
 use Rattle.lent_laws.proofs.Lent.{none_is_lent}
