@@ -56,9 +56,11 @@ use Rattle.call_lemmas.proofs.Ends.{enters}
 use Rattle.call_lemmas.proofs.Miniports.{released_none}
 use Rattle.call_lemmas.proofs.Served.{counts_call, did_protocol}
 use Rattle.call_lemmas.proofs.Steps.{in_spent}
-use Rattle.book_parts.specs.Events.{IsBook, IsIdle, IsUnmoved}
+use Rattle.homeward_laws.specs.Homeward.{LeadsTo}
+use Rattle.homeward_laws.proofs.Targets.{first_bound}
+use Rattle.book_parts.specs.Events.{IsBook, IsIdle, IsUnmoved, FirstIs}
 use Rattle.binding_work.specs.Sends.{called_with}
-use Rattle.binding_work.specs.Homes.{BeginsWithList, IsDoneFor, IsRoomed, IsReadyFor, MayComeHome, ComesHome, HasComeHome}
+use Rattle.binding_work.specs.Homes.{BeginsWithList, GoesToBinding, IsDoneFor, IsRoomed, IsReadyFor, MayComeHome, ComesHome, HasComeHome}
 use Rattle.book_parts.proofs.Events.{Begins, begins_called, begins_roomed, begins_stands, did_event, ends_call, unmoved}
 use Rattle.binding_work.proofs.Sending.{IsBound, IsDone, between, head_is, is_bound, any_choice}
 
@@ -192,6 +194,19 @@ housed_there pools binding l o (inr high) = absurd (no_live l (subst (λ p. IsOf
   where
     no_live : (l : ListView) → IsOf no_pool l → ⊥
     no_live l o = let some = o.live in cc
+
+-- a list goes to a binding as a send that is done
+done_by : (v : BookView) (binding : ℕ) (by : PassWay) → FirstIs v by (Module (Binding binding)) → LeadsTo by (Binding binding) → IsDoneFor v binding
+done_by v binding way.Down f leads = absurd leads
+done_by v binding way.Up f leads = absurd leads
+done_by v binding (way.Done status) f leads = record { status = status; first = f }
+done_by v binding (way.Back status) f leads = absurd leads
+
+pub goes_as_done : (old : BookView) (binding : ℕ) → IsBook old → IsIdle old → GoesToBinding old binding → IsDoneFor old binding
+goes_as_done old binding k i g =
+    let b : IsBetween old.tray.head old.tray.turns old.tray.net = between old k i in
+    let n = next_list old.tray.net (hands_of old.tray.queue old.held []) g.first.list g.by (Module (Binding binding)) g.first.rest k.stands.agrees g.first.first in
+    done_by old binding g.by g.first (first_bound old.tray.head old.tray.turns old.tray.net b.is b.sound b.bound n.x g.by (Binding binding) n.first n.stand).1
 
 pub done_there : (old : BookView) (binding : ℕ) → IsBook old → IsIdle old → IsDoneFor old binding → IsBound old binding
 done_there old binding k i d =

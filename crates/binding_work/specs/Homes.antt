@@ -33,6 +33,11 @@ pub record IsDoneWay (w : PassWay) : Type 0 where
   pub status : ListStatus
   pub is : w ≡ way.Done status
 
+-- the first thing on its way is a list that goes to a binding
+pub record GoesToBinding (v : BookView) (binding : ℕ) : Type 0 where
+  pub by : PassWay
+  pub first : FirstIs v by (Module (Binding binding))
+
 -- the first thing on its way is a list that is done, on its way to a binding
 pub record IsDoneFor (v : BookView) (binding : ℕ) : Type 0 where
   pub status : ListStatus

@@ -9,7 +9,7 @@ ghost use Rattle.promise_rules.specs.declared.Called.TheVariants as called;
 ghost use Rattle.driver_calls.specs.Rooms.{CanCount};
 ghost use Rattle.book_parts.specs.Parts.{view_of};
 ghost use Rattle.book_parts.specs.Events.{IsBook, IsIdle, DidEvent, IsUnmoved, CanEnd};
-ghost use Rattle.binding_work.specs.Homes.{BeginsWithList, IsDoneWay, IsDoneFor, IsReadyFor, IsRoomed, MayComeHome, ComesHome, HasComeHome};
+ghost use Rattle.binding_work.specs.Homes.{BeginsWithList, IsDoneWay, GoesToBinding, IsDoneFor, IsReadyFor, IsRoomed, MayComeHome, ComesHome, HasComeHome};
 
 use agenda_items::Item;
 use book_parts::BookParts;
@@ -137,14 +137,14 @@ fn home_first<M: MiniportCalls, P: ProtocolCalls, F: FilterCalls>(
     );
 }
 
-/// The first thing on its way, a send that is done, is home at its binding.
+/// The first thing on its way, a list that goes to a binding, is home there: it is a send of that binding.
 pub fn work_owner<M: MiniportCalls, P: ProtocolCalls, F: FilterCalls>(
     book: &mut BookParts<M, P, F>,
     binding: u32,
 ) -> Result<(), OutOfMemory>
     requires book { IsBook (view_of M.state P.state F.state book.old) }
     requires idle { IsIdle (view_of M.state P.state F.state book.old) }
-    requires first { IsDoneFor (view_of M.state P.state F.state book.old) binding }
+    requires first { GoesToBinding (view_of M.state P.state F.state book.old) binding }
     ensures did { OnOk result (DidEvent (view_of M.state P.state F.state book.old) (view_of M.state P.state F.state book.new) event.Pump reply.Moved) }
     ensures turn { OnOk result (CanEnd (view_of M.state P.state F.state book.new)) }
     ensures memory { OnErr result (IsUnmoved (view_of M.state P.state F.state book.old) (view_of M.state P.state F.state book.new)) }

@@ -1,11 +1,10 @@
 -- What is known where a list is first on its way and goes to a filter: the filter is attached and sits at a place, and the
 -- list may be worked there.
-use Rattle.std.proofs.Common.{◌≡◌, ℕ, ◌+◌, ◌<◌, ◌==◌, ◌||◌, inl, inr, Bool, true, false, cond, List, [], ◌∷◌, Option, Some, None, IsSome, length, refl, sym, ap, ◌∙◌, subst, arith}
+use Rattle.std.proofs.Common.{◌≡◌, ℕ, true, false, List, [], ◌∷◌, Option, Some, None, IsSome, refl, sym, ap, ◌∙◌, subst}
 use Rattle.std.proofs.lemmas.List.Elements.{All-head}
 use Rattle.ndis_base.specs.declared.Direction.{Direction}
 use Rattle.ndis_base.specs.declared.Direction.TheVariants as direction
-use Rattle.ndis_base.specs.declared.ModuleId.{ModuleId}
-use Rattle.ndis_base.specs.declared.ModuleId.TheVariants.{Miniport, Filter}
+use Rattle.ndis_base.specs.declared.ModuleId.TheVariants.{Filter}
 use Rattle.journal_types.specs.declared.PassWay.{PassWay}
 use Rattle.journal_types.specs.declared.PassWay.TheVariants as way
 use Rattle.journal_types.specs.declared.Setup.{Setup}
@@ -17,8 +16,8 @@ use Rattle.stack_rules.specs.declared.Attached.{Attached}
 use Rattle.stack_rules.specs.declared.LiveList.{LiveList}
 use Rattle.stack_rules.specs.declared.Stand.TheVariants as stand
 use Rattle.stack_rules.specs.declared.Thing.TheVariants as thing
-use Rattle.stack_rules.specs.Net.{Net, lists, list_of}
-use Rattle.stack_rules.specs.Places.{agenda_first, pool_of, above, position}
+use Rattle.stack_rules.specs.Net.{Net, lists}
+use Rattle.stack_rules.specs.Places.{agenda_first, pool_of}
 use Rattle.stack_rules.specs.Tests.{is_down}
 use Rattle.agenda_items.specs.declared.Carried.{Carried}
 use Rattle.agenda_items.specs.declared.Carried.TheVariants.{List as a_list}
@@ -27,30 +26,20 @@ use Rattle.hand_lemmas.proofs.Tells.{next_list}
 use Rattle.book_lemmas.specs.Between.{IsBetween}
 use Rattle.book_lemmas.specs.Stands.{Stands, IsSeated, IsPoolOf, IsCarriedSized}
 use Rattle.book_lemmas.specs.Views.{BookView, HeldView, IsPlace, filter_at, pool_at, seat_of, held_pool, hands_of}
-use Rattle.book_lemmas.proofs.Between.{IsAtFilter, GoesDown, GoesUp, not_halted, listed, first_placed, goes_down, goes_up, goes_done, goes_back}
+use Rattle.book_lemmas.proofs.Between.{IsAtFilter, GoesDown, GoesUp, not_halted, listed, goes_down, goes_up, goes_done, goes_back}
 use Rattle.book_lemmas.proofs.Between.GoesDown.{to_filter}
 use Rattle.book_lemmas.proofs.Between.GoesUp.{up_filter}
 use Rattle.call_lemmas.proofs.Homewards.{KeepsOriginal}
 use Rattle.pause_laws.proofs.Works.{each_away}
-use Rattle.place_laws.specs.Kept.{HasOriginal, StopsAbove, StandsPlaced}
+use Rattle.place_laws.specs.Kept.{HasOriginal}
 use Rattle.rule_basics.specs.Live.{Each}
-use Rattle.std.proofs.lemmas.Bool.{false≢true}
-use Rattle.ndis_base.specs.declared.ListNo.{ListNo}
-use Rattle.ndis_base.specs.declared.Origin.{Origin}
-use Rattle.ndis_base.specs.declared.Origin.TheVariants as origin
-use Rattle.clone_laws.specs.Backed.{ClonesAreBacked}
-use Rattle.clone_laws.proofs.Backs.{each_is_backed}
-use Rattle.hand_lemmas.proofs.Modules.{same_self, same_is}
-use Rattle.place_laws.specs.Kept as kept_laws
-use Rattle.rule_basics.proofs.Each.{Each-found}
-use Rattle.stack_rules.specs.Tests.{same_module}
+use Rattle.homeward_laws.proofs.Targets.{first_bound}
 use Rattle.lent_laws.specs.Lent.{is_lent, IsOwned}
 use Rattle.lent_laws.proofs.Lent.{none_is_lent}
-use Rattle.state_laws.proofs.Tops.{position_most}
 use Rattle.stack_rules.specs.Rewires.{is_in}
 use Rattle.book_parts.specs.Events.{IsBook, IsIdle}
 use Rattle.book_parts.proofs.Ended.{idle_state}
-use Rattle.filter_work.specs.Works.{IsClone, IsTold, GoesTo, GoesAs, MayWork}
+use Rattle.filter_work.specs.Works.{GoesTo, GoesAs, MayWork}
 
 pub between : (old : BookView) → IsBook old → IsIdle old → IsBetween old.tray.head old.tray.turns old.tray.net
 between old k i = record { is = idle_state old k i; sound = k.follows.sound; bound = k.bound }
@@ -87,43 +76,8 @@ up_is direction.Lent e o = absurd cc
 owned_first : {head : StackHead} {turns : List Turn} {net : Net} → IsBetween head turns net → (x : LiveList) → agenda_first net ≡ Some (thing.List x) → is_lent x.direction ≡ false
 owned_first {head} {turns} {net} b x first = each_away IsOwned net.things x (subst (λ (n : Net). Each IsOwned (lists n.things)) (sym b.is) (none_is_lent head turns b.sound)) first
 
--- a filter that stands above the miniport is one of the order
-in_order : (f : ℕ) (order : List ℕ) → above f order < length order → is_in f order ≡ true
-in_order f [] low = absurd (omega (arith, low))
-in_order f (g ∷ gs) low =
-    let cases : (b : Bool) → cond b 0 (above f gs + 1) < length (g ∷ gs) → (b || is_in f gs) ≡ true = elim [
-      | true ↦ λ h. refl
-      | false ↦ λ h. in_order f gs (omega (arith, h))
-    ] in
-    cases (g == f) low
-
 at_inside : {head : StackHead} {turns : List Turn} {net : Net} → IsBetween head turns net → (x : LiveList) (f : ℕ) → agenda_first net ≡ Some (thing.List x) → is_in f net.modules.order ≡ true → IsAtFilter net f
 at_inside b x f first inside = let o = (listed b (not_halted b (thing.List x) first)).ordered.attached f inside in record { a = o.0; there = o.1; number = o.2; inside = inside }
-
--- the owner of a clone keeps the original, so it is one of the order
-own_inside : {head : StackHead} {turns : List Turn} {net : Net} → IsBetween head turns net → (x : LiveList) (f : ℕ) (o : ListNo) → agenda_first net ≡ Some (thing.List x) → list_of x.list.0 (lists net.things) ≡ Some x → x.owner ≡ Filter f
-    → x.origin ≡ origin.Clone o → is_in f net.modules.order ≡ true
-own_inside {head} {turns} {net} b x f o first live own clone =
-    let k = listed b (not_halted b (thing.List x) first) in
-    let y = (subst ClonesAreBacked (sym b.is) (each_is_backed head turns b.sound)) x.list.0 x o live clone in
-    let is = each_away (HasOriginal net) net.things x k.originals first o y.0 clone y.1 in
-    let placed = Each-found (kept_laws.IsPlaced net) o.0 (lists net.things) y.0 k.placed y.1 in
-    subst (StandsPlaced net.modules y.0) (is.kept ∙ ap stand.Kept own) placed.stands
-
-clone_of : (from : Origin) → IsClone from → (o : ListNo) × (from ≡ origin.Clone o)
-clone_of origin.Root c = absurd c
-clone_of (origin.Clone o) c = (o, refl)
-clone_of (origin.Copy o) c = absurd c
-
-at_filter : {head : StackHead} {turns : List Turn} {net : Net} → IsBetween head turns net → (x : LiveList) (f : ℕ) → agenda_first net ≡ Some (thing.List x) → position net.modules.order (Filter f) < length net.modules.order + 1 → IsAtFilter net f
-at_filter {net = net} b x f first low =
-    let inside : is_in f net.modules.order ≡ true = in_order f net.modules.order (omega (arith, low)) in
-    let o = (listed b (not_halted b (thing.List x) first)).ordered.attached f inside in
-    record { a = o.0; there = o.1; number = o.2; inside = inside }
-
-above_owner : (net : Net) (owner : ModuleId) (f : ℕ) → StopsAbove net.modules owner (Filter f) → (Filter f ≡ owner → ⊥) → position net.modules.order (Filter f) < position net.modules.order owner
-above_owner net owner f (inl e) other = absurd (other e)
-above_owner net owner f (inr low) other = low
 
 -- what the laws tell of a list by the way that it goes
 pub record IsOnTrack (net : Net) (by : PassWay) (x : LiveList) (f : ℕ) : Type 0 where
@@ -135,40 +89,25 @@ keeps_original : {head : StackHead} {turns : List Turn} {net : Net} → IsBetwee
 keeps_original {net = net} b x first o y clone live =
     (each_away (HasOriginal net) net.things x (listed b (not_halted b (thing.List x) first)).originals first o y clone live).kept
 
--- a receive on its way back
-back_inside : {head : StackHead} {turns : List Turn} {net : Net} → IsBetween head turns net → (l : ListView) (x : LiveList) (f : ℕ) (own : Bool) → same_module (Filter f) x.owner ≡ own → in_state x ≡ in_hand l → (l.label.owner ≡ Filter f → IsClone l.label.origin)
-    → agenda_first net ≡ Some (thing.List x) → list_of x.list.0 (lists net.things) ≡ Some x → StopsAbove net.modules x.owner (Filter f) → IsAtFilter net f
-back_inside {net = net} b l x f true e same told first live above_is =
-    let own : x.owner ≡ Filter f = sym (same_is (Filter f) x.owner e) in
-    let o = clone_of l.label.origin (told (ap (λ (c : Common). c.owner) (sym same) ∙ own)) in
-    at_inside b x f first (own_inside b x f o.0 first live own (ap (λ (c : Common). c.origin) same ∙ o.1))
-back_inside {net = net} b l x f false e same told first live above_is =
-    let low = above_owner net x.owner f above_is (λ o. false≢true (sym e ∙ ap (same_module (Filter f)) (sym o) ∙ same_self (Filter f))) in
-    let most = position_most net.modules.order x.owner in
-    at_filter b x f first (omega (arith, low, most))
+-- a list goes to a filter of the order
+first_inside : {head : StackHead} {turns : List Turn} {net : Net} → IsBetween head turns net → (by : PassWay) (x : LiveList) (f : ℕ) → agenda_first net ≡ Some (thing.List x) → x.stand ≡ stand.Passed by (Module (Filter f)) → is_in f net.modules.order ≡ true
+first_inside {head} {turns} {net} b by x f first stands = (first_bound head turns net b.is b.sound b.bound x by (Filter f) first stands).0
 
-on_track : {head : StackHead} {turns : List Turn} {net : Net} (by : PassWay) (l : ListView) (x : LiveList) (f : ℕ) → IsTold by l f → in_state x ≡ in_hand l → list_of x.list.0 (lists net.things) ≡ Some x → IsBetween head turns net → agenda_first net ≡ Some (thing.List x)
-    → x.stand ≡ stand.Passed by (Module (Filter f)) → IsOnTrack net by x f
-on_track way.Down l x f told same live b first stands =
-    let goes = down_to_filter _ x f (goes_down b x (Module (Filter f)) first stands) in
-    record { at = goes.1; goes = down_is x.direction goes.0 }
-on_track way.Up l x f told same live b first stands =
-    let goes = up_to_filter _ x f (goes_up b x (Module (Filter f)) first stands) in
-    record { at = goes.1; goes = up_is x.direction goes.0 (owned_first b x first) }
-on_track {net = net} (way.Done status) l x f told same live b first stands =
-    let goes = goes_done b x (Filter f) status first stands in
-    let low : position net.modules.order (Filter f) < position net.modules.order Miniport = subst (λ m. position net.modules.order m < position net.modules.order Miniport) (ap (λ (c : Common). c.owner) same ∙ told) ((first_placed b x first).down goes.0) in
-    record { at = at_filter b x f first low; goes = down_is x.direction goes.0 }
-on_track {net = net} (way.Back status) l x f told same live b first stands =
-    let goes = goes_back b x (Filter f) status first stands in
-    record { at = back_inside b l x f (same_module (Filter f) x.owner) refl same told first live goes.1; goes = up_is x.direction goes.0 (owned_first b x first) }
+first_goes : {head : StackHead} {turns : List Turn} {net : Net} → IsBetween head turns net → (by : PassWay) (x : LiveList) (f : ℕ) → agenda_first net ≡ Some (thing.List x) → x.stand ≡ stand.Passed by (Module (Filter f)) → GoesAs by x.direction
+first_goes b way.Down x f first stands = down_is x.direction (down_to_filter _ x f (goes_down b x (Module (Filter f)) first stands)).0
+first_goes b way.Up x f first stands = up_is x.direction (up_to_filter _ x f (goes_up b x (Module (Filter f)) first stands)).0 (owned_first b x first)
+first_goes b (way.Done status) x f first stands = down_is x.direction (goes_done b x (Filter f) status first stands).0
+first_goes b (way.Back status) x f first stands = up_is x.direction (goes_back b x (Filter f) status first stands).0 (owned_first b x first)
 
-pub is_for : {head : StackHead} {turns : List Turn} {net : Net} {held : HeldView} {rest : List Carried} (by : PassWay) (l : ListView) (f : ℕ) → IsTold by l f → IsBetween head turns net → Stands net (a_list l by (Module (Filter f)) ∷ rest) held [] → IsFor net held by l f
-is_for {net = net} {held = held} {rest = rest} by l f told between s =
+on_track : {head : StackHead} {turns : List Turn} {net : Net} (by : PassWay) (x : LiveList) (f : ℕ) → IsBetween head turns net → agenda_first net ≡ Some (thing.List x) → x.stand ≡ stand.Passed by (Module (Filter f)) → IsOnTrack net by x f
+on_track by x f b first stands = record { at = at_inside b x f first (first_inside b by x f first stands); goes = first_goes b by x f first stands }
+
+pub is_for : {head : StackHead} {turns : List Turn} {net : Net} {held : HeldView} {rest : List Carried} (by : PassWay) (l : ListView) (f : ℕ) → IsBetween head turns net → Stands net (a_list l by (Module (Filter f)) ∷ rest) held [] → IsFor net held by l f
+is_for {net = net} {held = held} {rest = rest} by l f between s =
     let queue : List Carried = a_list l by (Module (Filter f)) ∷ rest in
     let n = next_list net (hands_of queue held []) l by (Module (Filter f)) rest s.agrees refl in
     let same : in_state n.x ≡ in_hand l = ap in_state (sym n.is) ∙ n.mine.same in
-    let track : IsOnTrack net by n.x f = on_track by l n.x f told same (ap (λ (c : Common). list_of c.list.0 (lists net.things)) same ∙ n.mine.live ∙ ap Some n.is) between n.first n.stand in
+    let track : IsOnTrack net by n.x f = on_track by n.x f between n.first n.stand in
     record {
       x = n.x;
       first = n.first;
@@ -215,7 +154,7 @@ pub may_work : (old : BookView) (f place : ℕ) → IsBook old → IsIdle old �
     → MayWork f (filter_at old.held.filters (Some place)) old.tray (pool_at old.held.filter_pools (Some place))
 may_work old f place k i to seat =
     let s : Stands old.tray.net (a_list to.first.list to.by (Module (Filter f)) ∷ to.first.rest) old.held [] = subst (λ q. Stands old.tray.net q old.held []) to.first.first k.stands in
-    let here = is_for to.by to.first.list f to.told (between old k i) s in
+    let here = is_for to.by to.first.list f (between old k i) s in
     let there = is_placed place s here seat in
     record {
       list = to.first.list;
@@ -236,6 +175,6 @@ may_work old f place k i to seat =
 pub has_seat : (old : BookView) (f : ℕ) → IsBook old → IsIdle old → GoesTo old f → seat_of old.held.seats f ≡ None → ⊥
 has_seat old f k i to none =
     let s : Stands old.tray.net (a_list to.first.list to.by (Module (Filter f)) ∷ to.first.rest) old.held [] = subst (λ q. Stands old.tray.net q old.held []) to.first.first k.stands in
-    let here = is_for to.by to.first.list f to.told (between old k i) s in
+    let here = is_for to.by to.first.list f (between old k i) s in
     let some : seat_of old.held.seats f ≡ Some here.seated.place = ap (seat_of old.held.seats) (sym here.at.number) ∙ here.seated.seat in
     cc (none, some)

@@ -31,7 +31,7 @@ use Rattle.call_lemmas.proofs.Ends.{enters}
 use Rattle.call_lemmas.proofs.Served.{did_filter}
 use Rattle.book_parts.specs.Events.{IsBook, IsIdle, DidEvent, IsUnmoved, CanEnd}
 use Rattle.book_parts.proofs.Events.{Begins, Ends, begins_roomed, begins_called, begins_stands, did_event, ends_call, unmoved}
-use Rattle.filter_work.specs.Works.{IsTold, GoesTo, IsRoomed, Takes, WorksFirst, called_with}
+use Rattle.filter_work.specs.Works.{GoesTo, IsRoomed, Takes, WorksFirst, called_with}
 use Rattle.filter_work.proofs.Asked.{IsFor, IsPlaced, between, is_for, is_placed}
 use Rattle.filter_work.proofs.Worked.{IsWorked, worked}
 
@@ -62,11 +62,11 @@ pub record IsDone (old new : BookView) : Type 0 where
   pub did : DidEvent old new event.Pump reply.Moved
   pub turn : CanEnd new
 
-taken_done : (old : BookView) (begun : TrayView) (by : PassWay) (l : ListView) (rest : List Carried) (f place : ℕ) (s' : FilterState) (left : TrayView) → IsTold by l f → IsBook old → IsIdle old → Begins old.tray begun [] → 1 ≤ begun.room.turns
+taken_done : (old : BookView) (begun : TrayView) (by : PassWay) (l : ListView) (rest : List Carried) (f place : ℕ) (s' : FilterState) (left : TrayView) → IsBook old → IsIdle old → Begins old.tray begun [] → 1 ≤ begun.room.turns
     → begun.queue ≡ a_list l by (Module (Filter f)) ∷ rest → seat_of old.held.seats f ≡ Some place
     → Takes by (filter_at old.held.filters (Some place)) l (called_with (record begun { queue = rest }) f (pool_at old.held.filter_pools (Some place))) s' left
     → IsDone old (record { tray = record left { pool = begun.pool }; held = filter_called old.held place s' left.pool })
-taken_done old begun by l rest f place s' left told k i roomed turns first seat takes =
+taken_done old begun by l rest f place s' left k i roomed turns first seat takes =
     let m : ModuleId = Filter f in
     let front : List Carried = a_list l by (Module (Filter f)) ∷ [] in
     let s : FilterState = filter_at old.held.filters (Some place) in
@@ -75,7 +75,7 @@ taken_done old begun by l rest f place s' left told k i roomed turns first seat 
     let g : Begins old.tray b front = begins_called m (pool_at old.held.filter_pools (Some place)) (begins_first roomed first) in
     let stands : Stands b.net (front ++ rest) old.held [] = begins_stands k g in
     let at_begin : IsBetween old.tray.head old.tray.turns b.net = subst (IsBetween old.tray.head old.tray.turns) (sym g.net) (between old k i) in
-    let here : IsFor b.net old.held by l f = is_for by l f told at_begin stands in
+    let here : IsFor b.net old.held by l f = is_for by l f at_begin stands in
     let there : IsPlaced b.net old.held f place here.at.a = is_placed place stands here seat in
     let all = stands.sized.carried in
     let enter = enters b old.held m front [] stands refl (ap (pool_at old.held.filter_pools) (sym seat))
@@ -115,7 +115,7 @@ worked_event old new f place s' pool' k i to seat d held =
     let first : d.begun.queue ≡ a_list d.list to.by (Module (Filter f)) ∷ d.rest = d.first ∙ ap (λ w. a_list d.list w d.to ∷ d.rest) is.0 ∙ ap (λ t. a_list d.list to.by t ∷ d.rest) is.1 in
     let takes = subst (λ w. Takes w (filter_at old.held.filters (Some place)) d.list (called_with (record d.begun { queue = d.rest }) f (pool_at old.held.filter_pools (Some place))) s' d.works.left) is.0 d.works.takes in
     subst (IsDone old) (book_is d.works.tray (held ∙ ap (filter_called old.held place s') d.works.pool_is))
-    (taken_done old d.begun to.by d.list d.rest f place s' d.works.left (subst (λ l. IsTold to.by l f) is.2 to.told) k i roomed d.turns first seat takes)
+    (taken_done old d.begun to.by d.list d.rest f place s' d.works.left k i roomed d.turns first seat takes)
 
 -- the view with other filters and pools
 pub called_at : (held : HeldView) (place : ℕ) (s : FilterState) (pool : PoolView) (filters : List FilterState) (pools : List PoolView) → filters ≡ slice_set held.filters place s → pools ≡ slice_set held.filter_pools place pool

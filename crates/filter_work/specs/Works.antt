@@ -1,12 +1,10 @@
 -- What is done with a list at a filter in one event.
-use Rattle.std.specs.Prelude.{true, false, ◌≡◌, ◌≢◌, ℕ, ◌≤◌, ◌<◌, ◌*◌, ◌^◌, List, ◌∷◌, IsSome}
+use Rattle.std.specs.Prelude.{true, false, ◌≡◌, ◌≢◌, ℕ, ◌≤◌, ◌*◌, List, ◌∷◌, IsSome}
 use Rattle.ndis_base.specs.declared.Direction.{Direction}
 use Rattle.ndis_base.specs.declared.Direction.TheVariants as direction
 use Rattle.ndis_base.specs.declared.ListStatus.{ListStatus}
 use Rattle.ndis_base.specs.declared.ListStatus.TheVariants.{Paused}
 use Rattle.ndis_base.specs.declared.ModuleId.TheVariants.{Filter}
-use Rattle.ndis_base.specs.declared.Origin.{Origin}
-use Rattle.ndis_base.specs.declared.Origin.TheVariants as origin
 use Rattle.journal_types.specs.declared.Handler.{Handler}
 use Rattle.journal_types.specs.declared.Handler.TheVariants as handler
 use Rattle.journal_types.specs.declared.PassWay.{PassWay}
@@ -29,24 +27,10 @@ use Rattle.driver_calls.specs.Filters.{IsHandled, IsCompleted}
 use Rattle.book_lemmas.specs.Views.{BookView}
 use Rattle.book_parts.specs.Events.{FirstIs}
 
--- a clone
-abbrev pub IsClone : Origin → Type 0
-IsClone (origin.Clone o) = Unit {0}
-IsClone _ = ⊥
-
--- the ways of which the laws tell that they end at a filter that is attached: down and up, a send home to its owner, and a
--- receive back past other filters or, if it is a clone, to its owner
-abbrev pub IsTold : PassWay → ListView → ℕ → Type 0
-IsTold way.Down l f = Unit {0}
-IsTold way.Up l f = Unit {0}
-IsTold (way.Done status) l f = l.label.owner ≡ Filter f
-IsTold (way.Back status) l f = l.label.owner ≡ Filter f → IsClone l.label.origin
-
--- the first thing on its way is a list that goes so to this filter
+-- the first thing on its way is a list that goes to this filter
 pub record GoesTo (v : BookView) (f : ℕ) : Type 0 where
   pub by : PassWay
   pub first : FirstIs v by (Module (Filter f))
-  pub told : IsTold by first.list f
 
 -- the tray while a filter is called, with its pool
 abbrev pub called_with : TrayView → ℕ → PoolView → TrayView

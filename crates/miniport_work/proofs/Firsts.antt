@@ -33,11 +33,13 @@ use Rattle.book_lemmas.specs.Between.{IsBetween}
 use Rattle.book_lemmas.specs.Stands.{DriversFit}
 use Rattle.book_lemmas.specs.Views.{BookView, HeldView, held_pool, hands_of}
 use Rattle.book_lemmas.proofs.Between.{not_halted}
+use Rattle.homeward_laws.specs.Homeward.{LeadsTo}
+use Rattle.homeward_laws.proofs.Targets.{first_bound}
 use Rattle.lent_laws.specs.Lent.{is_lent}
 use Rattle.book_parts.specs.Events.{IsBook, IsIdle, FirstIs}
 use Rattle.book_parts.proofs.Ended.{idle_state}
 use Rattle.book_parts.proofs.Events.{Begins, begins_roomed}
-use Rattle.miniport_work.specs.Works.{GoesToMiniport, comes_down, comes_back, StartsWithList, IsRoomed, IsReady}
+use Rattle.miniport_work.specs.Works.{GoesToMiniport, StartsWithList, IsRoomed, IsReady}
 
 -- where a list is the first, nothing else is
 pub no_status : {queue rest : List Carried} {i : Item} {s : StatusAway} → StartsWithList queue → queue ≡ kept_as i ∷ rest → i ≡ item.Status s → ⊥
@@ -135,27 +137,33 @@ ready_taken {room} {things} {s} {before} {t} {queue} e r =
     let q : IsReady room things s (record t { queue = queue }) = subst (IsReady room things s) e r in
     record { send = q.send; returned = q.returned; covers = q.covers; slack = q.slack; low = q.low }
 
+pub starts_with : {old : BookView} {before : TrayView} → GoesToMiniport old → IsRoomed old.tray before → StartsWithList before.queue
+starts_with {old} {before} g r = record {
+  list = g.first.list;
+  way = g.by;
+  to = Module Miniport;
+  rest = g.first.rest;
+  is = ap (λ (q : TrayView). q.queue) r.same ∙ g.first.first;
+}
+
 -- which list was taken, by which way it is passed
-way_clash : {old : BookView} {before t : TrayView} {l : ListView} {way w v : PassWay} {to : Target} → FirstIs old w (Module Miniport) → IsRoomed old.tray before → before ≡ record t { queue = a_list l way to ∷ t.queue } → way ≡ v → w ≡ v
-way_clash f r e is = sym (to_is f r e).1 ∙ is
+way_is : {old : BookView} {before t : TrayView} {l : ListView} {way v : PassWay} {to : Target} → (g : GoesToMiniport old) → IsRoomed old.tray before → before ≡ record t { queue = a_list l way to ∷ t.queue } → way ≡ v → g.by ≡ v
+way_is g r e is = sym (to_is g.first r e).1 ∙ is
 
-pub down_first : {old : BookView} {before t : TrayView} {l : ListView} {way : PassWay} {to : Target} → GoesToMiniport old → IsRoomed old.tray before → before ≡ record t { queue = a_list l way to ∷ t.queue } → way ≡ ways.Down
-    → FirstIs old ways.Down (Module Miniport)
-down_first (comes_down f) r e is = f
-down_first (comes_back status f) r e is = let other : ways.Back status ≡ ways.Down = way_clash f r e is in cc
+-- the list goes to the miniport by the way of the one that was taken
+pub goes_as : {old : BookView} {before t : TrayView} {l : ListView} {way v : PassWay} {to : Target} → GoesToMiniport old → IsRoomed old.tray before → before ≡ record t { queue = a_list l way to ∷ t.queue } → way ≡ v → FirstIs old v (Module Miniport)
+goes_as {old} g r e is = subst (λ w. FirstIs old w (Module Miniport)) (way_is g r e is) g.first
 
-pub back_first : {old : BookView} {before t : TrayView} {l : ListView} {way : PassWay} {to : Target} {status : ListStatus} → GoesToMiniport old → IsRoomed old.tray before → before ≡ record t { queue = a_list l way to ∷ t.queue } → way ≡ ways.Back status
-    → FirstIs old (ways.Back status) (Module Miniport)
-back_first (comes_down f) r e is = let other = way_clash f r e is in cc
-back_first {old} {status = status} (comes_back was f) r e is =
-    let same : ways.Back was ≡ ways.Back status = way_clash f r e is in
-    let told : was ≡ status = cc in
-    subst (λ s. FirstIs old (ways.Back s) (Module Miniport)) told f
+-- it leads to the miniport
+leads : {old : BookView} {before t : TrayView} {l : ListView} {way v : PassWay} {to : Target} → IsBook old → IsIdle old → GoesToMiniport old → IsRoomed old.tray before → before ≡ record t { queue = a_list l way to ∷ t.queue } → way ≡ v → LeadsTo v Miniport
+leads {old} {v = v} k i g r e is =
+    let b = between old k i in
+    let f : FirstIs old v (Module Miniport) = goes_as g r e is in
+    let n = first_list old f.list v (Module Miniport) f.rest k i f.first in
+    (first_bound old.tray.head old.tray.turns old.tray.net b.is b.sound b.bound n.x v Miniport n.first n.stand).1
 
-pub not_up : {old : BookView} {before t : TrayView} {l : ListView} {way : PassWay} {to : Target} → GoesToMiniport old → IsRoomed old.tray before → before ≡ record t { queue = a_list l way to ∷ t.queue } → way ≡ ways.Up → ⊥
-not_up (comes_down f) r e is = let other = way_clash f r e is in cc
-not_up (comes_back status f) r e is = let other = way_clash f r e is in cc
+pub not_up : {old : BookView} {before t : TrayView} {l : ListView} {way : PassWay} {to : Target} → IsBook old → IsIdle old → GoesToMiniport old → IsRoomed old.tray before → before ≡ record t { queue = a_list l way to ∷ t.queue } → way ≡ ways.Up → ⊥
+not_up k i g r e is = leads k i g r e is
 
-pub not_done : {old : BookView} {before t : TrayView} {l : ListView} {way : PassWay} {to : Target} {status : ListStatus} → GoesToMiniport old → IsRoomed old.tray before → before ≡ record t { queue = a_list l way to ∷ t.queue } → way ≡ ways.Done status → ⊥
-not_done (comes_down f) r e is = let other = way_clash f r e is in cc
-not_done (comes_back status f) r e is = let other = way_clash f r e is in cc
+pub not_done : {old : BookView} {before t : TrayView} {l : ListView} {way : PassWay} {to : Target} {status : ListStatus} → IsBook old → IsIdle old → GoesToMiniport old → IsRoomed old.tray before → before ≡ record t { queue = a_list l way to ∷ t.queue } → way ≡ ways.Done status → ⊥
+not_done k i g r e is = leads k i g r e is

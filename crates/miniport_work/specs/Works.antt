@@ -1,11 +1,9 @@
 -- What is done at the miniport in one event.
-use Rattle.std.specs.Prelude.{◌≡◌, ℕ, ◌≤◌, ◌<◌, ◌^◌, ◌∷◌, List, Option, Some, None, IsSome}
+use Rattle.std.specs.Prelude.{◌≡◌, ℕ, ◌≤◌, ◌∷◌, List, Option, Some, None, IsSome}
 use Rattle.ndis_base.specs.declared.Direction.TheVariants as direction
 use Rattle.ndis_base.specs.declared.ListNo.{ListNo}
-use Rattle.ndis_base.specs.declared.ListStatus.{ListStatus}
 use Rattle.ndis_base.specs.declared.ModuleId.TheVariants.{Miniport}
 use Rattle.journal_types.specs.declared.PassWay.{PassWay}
-use Rattle.journal_types.specs.declared.PassWay.TheVariants as way
 use Rattle.journal_types.specs.declared.Reply.{Reply}
 use Rattle.journal_types.specs.declared.Reply.TheVariants as reply
 use Rattle.journal_types.specs.declared.Target.{Target}
@@ -68,10 +66,10 @@ pub record StartsWithList (queue : List Carried) : Type 0 where
   pub rest : List Carried
   pub is : queue ≡ a_list list way to ∷ rest
 
--- the first thing on its way is a send that comes down to the miniport, or a receive that comes back to it
-pub data GoesToMiniport (v : BookView) : Type 0 where
-  comes_down : FirstIs v way.Down (Module Miniport) → GoesToMiniport v
-  comes_back : (status : ListStatus) → FirstIs v (way.Back status) (Module Miniport) → GoesToMiniport v
+-- the first thing on its way is a list that goes to the miniport
+pub record GoesToMiniport (v : BookView) : Type 0 where
+  pub by : PassWay
+  pub first : FirstIs v by (Module Miniport)
 
 -- the answer to a transmission: the list that went onto the wire, or that there was none
 abbrev pub wired_as : Option ListNo → Reply

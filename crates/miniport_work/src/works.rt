@@ -14,7 +14,8 @@ use flat_journal::Room;
 use journal_types::PassWay;
 use ndis_base::{ListNo, OutOfMemory};
 
-/// Works the first list on its way, which comes to the miniport.
+/// Works the first list on its way, which goes to the miniport: it is a send that comes down, or a receive that comes
+/// back.
 pub fn work_miniport<M: MiniportCalls, P: ProtocolCalls, F: FilterCalls>(
     book: &mut BookParts<M, P, F>,
 ) -> Result<(), OutOfMemory>

@@ -143,7 +143,7 @@ module _ (net : Net) (facts : Facts net) where
   moved_leaves l (stand.Passed way.Up Bindings) keeps e f = let k = fits_at l (stand.Passed way.Up Bindings) e f in delivery_leaves net facts l keeps k.0 (omega (arith, passer_low net.modules l.last k.1.0, k.1.1.1)) f
   moved_leaves l (stand.Passed (way.Done status) (Module m)) keeps e f = homeward_leaves net facts l m status f (inl (done_may net facts l m status f e))
   moved_leaves l (stand.Passed (way.Done status) Bindings) keeps e f = begins net facts
-  moved_leaves l (stand.Passed (way.Back status) (Module m)) keeps e f = homeward_leaves net facts l m status f (inr (fits_at l (stand.Passed (way.Back status) (Module m)) e f))
+  moved_leaves l (stand.Passed (way.Back status) (Module m)) keeps e f = homeward_leaves net facts l m status f (inr (fits_at l (stand.Passed (way.Back status) (Module m)) e f).0)
   moved_leaves l (stand.Passed (way.Back status) Bindings) keeps e f = begins net facts
 
   -- a pump

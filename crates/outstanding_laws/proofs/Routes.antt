@@ -1,5 +1,5 @@
 -- Lists go on and homewards from the module that had them last.
-use Rattle.std.proofs.Common.{◌≡◌, ℕ, ◌+◌, ◌-◌, ◌<◌, ◌≤◌, ◌&&◌, Bool, true, false, List, [], ◌∷◌, Option, Some, length, take, drop, reverse, refl, arith, ap, sym, subst, ◌∙◌}
+use Rattle.std.proofs.Common.{◌≡◌, ℕ, ◌+◌, ◌-◌, ◌<◌, ◌≤◌, ◌&&◌, inl, inr, Bool, true, false, List, [], ◌∷◌, Option, Some, length, take, drop, reverse, refl, arith, ap, sym, subst, ◌∙◌}
 use Rattle.ndis_base.specs.declared.ModuleId.{ModuleId}
 use Rattle.ndis_base.specs.declared.ModuleId.TheVariants.{Miniport, Filter, Binding}
 use Rattle.ndis_base.specs.declared.ListNo.{ListNo}
@@ -16,7 +16,7 @@ use Rattle.stack_rules.specs.declared.Stand.TheVariants as stand
 use Rattle.stack_rules.specs.Tests.{is_down}
 use Rattle.stack_rules.specs.Net.{Net, Modules, after, after_rows}
 use Rattle.stack_rules.specs.Places.{position}
-use Rattle.stack_rules.specs.Targets.{has_send, has_receive, next_down, next_up, next_done, onward, homeward, homeward_by, turned_back}
+use Rattle.stack_rules.specs.Targets.{has_send, has_receive, next_down, next_up, next_done, next_back, onward, homeward, homeward_by, turned_back}
 use Rattle.stack_rules.specs.Rewires.{is_in}
 use Rattle.state_laws.specs.Shape.{IsDistinct}
 use Rattle.state_laws.specs.Laws.{IsThere}
@@ -25,7 +25,7 @@ use Rattle.place_laws.proofs.Spots.{in_drop, in_take, in_reverse, in_above, take
 use Rattle.place_laws.proofs.Good.{one_found}
 use Rattle.place_laws.proofs.Looks.{look, issued}
 use Rattle.outstanding_laws.specs.Outstanding.{passes_sends, passes_receives}
-use Rattle.outstanding_laws.proofs.Rows.{May, GoesDown, Fits, All, IsSame, Goes, Has, has_again, has_back, has_known, pass_held, back_good, issue_good, look_new}
+use Rattle.outstanding_laws.proofs.Rows.{May, GoesDown, GoesBack, Fits, All, IsSame, Goes, Has, has_again, has_back, has_known, pass_held, back_good, issue_good, look_new}
 
 and_both : (a b : Bool) → a ≡ true → b ≡ true → (a && b) ≡ true
 and_both a b h k = cc
@@ -95,21 +95,32 @@ module _ (ms : Modules) (start : Net) (begun : All (λ k x. k < start.next.list)
       one_filter : (a b : ℕ) → Module (Filter a) ≡ Module (Filter b) → b ≡ a
       one_filter a b e = cc
 
+  -- from wherever a receive goes back, it goes to its owner or to a filter that passes receives
+  back_to : (i : ℕ) (owner : ModuleId) → GoesBack ms owner (next_back ms i owner)
+  back_to i owner =
+      let fs : List ℕ = take (position ms.order owner - 1) ms.order in
+      found_or (GoesBack ms owner) (has_receive ms) (drop i fs) (Module owner)
+      (λ f h x. inr (f, refl, and_both (is_in f ms.order) (has_receive ms f) (in_take f (position ms.order owner - 1) ms.order (in_drop f i fs x)) h))
+      (inl refl)
+
+  back_fits : (net : Net) (list : ListNo) (owner : ModuleId) (way_of : Direction) (i : ℕ) → is_down way_of ≡ false → IsOf net list owner way_of → (x : LiveList) → look net list.0 ≡ Some x → (is_down x.direction ≡ false) × GoesBack ms x.owner (next_back ms i owner)
+  back_fits net list owner way_of i up is x f = let s = is x f in (ap is_down s.1 ∙ up, subst (λ o. GoesBack ms o (next_back ms i owner)) (sym s.0) (back_to i owner))
+
   -- a list in a module's hand goes homewards
   pub go_home : (net : Net) (list : ListNo) (owner : ModuleId) (way_of : Direction) (m : ModuleId) (i : ℕ) (status : ListStatus) → i ≡ position ms.order m → IsOf net list owner way_of → May ms (is_down way_of) owner m → Has ms start begun list.0 m net → Goes ms start begun (after net (homeward_by ms list owner way_of i status))
   go_home net list owner direction.Down m i status e is may h =
       pass_held ms start begun net list m (way.Done status) (next_done ms i owner)
       (λ x f. let s = is x f in let p = may.sent refl in subst (λ o. Fits ms (is_down x.direction) o m (stand.Passed (way.Done status) (next_done ms i owner))) (sym s.0) (ap is_down s.1, (p.0, (ap (λ n. next_done ms n owner) e, p.1)))) h
   go_home net list owner direction.Up m i status e is may h =
-      pass_held ms start begun net list m (way.Back status) _ (λ x f. ap is_down (is x f).1) h
+      pass_held ms start begun net list m (way.Back status) _ (back_fits net list owner direction.Up i refl is) h
   go_home net list owner direction.Lent m i status e is may h =
-      pass_held ms start begun net list m (way.Back status) _ (λ x f. ap is_down (is x f).1) h
+      pass_held ms start begun net list m (way.Back status) _ (back_fits net list owner direction.Lent i refl is) h
 
   -- a receive goes homewards from wherever it is
   pub go_back : (net : Net) (list : ListNo) (owner : ModuleId) (way_of : Direction) (i : ℕ) (status : ListStatus) → is_down way_of ≡ false → IsOf net list owner way_of → Goes ms start begun net → Goes ms start begun (after net (homeward_by ms list owner way_of i status))
   go_back net list owner direction.Down i status up is h = absurd (cc)
-  go_back net list owner direction.Up i status up is h = back_good ms start begun net list status _ (λ x f. ap is_down (is x f).1) h
-  go_back net list owner direction.Lent i status up is h = back_good ms start begun net list status _ (λ x f. ap is_down (is x f).1) h
+  go_back net list owner direction.Up i status up is h = back_good ms start begun net list status _ (back_fits net list owner direction.Up i refl is) h
+  go_back net list owner direction.Lent i status up is h = back_good ms start begun net list status _ (back_fits net list owner direction.Lent i refl is) h
 
   -- a receive in a module's hand goes on
   up_on : (net : Net) (list : ListNo) (owner m : ModuleId) (i : ℕ) → i ≡ position ms.order m → ((x : LiveList) → look net list.0 ≡ Some x → (x.owner ≡ owner) × (is_down x.direction ≡ false)) → (passes_receives ms m ≡ true) × (i ≤ position ms.order owner) → Has ms start begun list.0 m net →
@@ -155,8 +166,8 @@ module _ (ms : Modules) (start : Net) (begun : All (λ k x. k < start.next.list)
     where
       by : (w : Direction) → l.direction ≡ w → is_down w ≡ false → Goes ms start begun (after net (homeward_by ms l.list l.owner w i status))
       by direction.Down q u = absurd (cc)
-      by direction.Up q u = pass_held ms start begun net l.list m (way.Back status) _ (λ x f. ap is_down ((held_as net l.list.0 m l e h x f).1 ∙ q)) h
-      by direction.Lent q u = pass_held ms start begun net l.list m (way.Back status) _ (λ x f. ap is_down ((held_as net l.list.0 m l e h x f).1 ∙ q)) h
+      by direction.Up q u = pass_held ms start begun net l.list m (way.Back status) _ (back_fits net l.list l.owner l.direction i up (held_as net l.list.0 m l e h)) h
+      by direction.Lent q u = pass_held ms start begun net l.list m (way.Back status) _ (back_fits net l.list l.owner l.direction i up (held_as net l.list.0 m l e h)) h
 
   pub back_up : (net : Net) (l : LiveList) (m : ModuleId) (status : ListStatus) → look start l.list.0 ≡ Some l → is_down l.direction ≡ false → Goes ms start begun net → Goes ms start begun (after_rows net (turned_back ms l m status))
   back_up net l m status e up h = home_up (after net (row.TurnBack l.list m status)) l m (position ms.order m) status e up (has_back ms start begun net l.list m status h)

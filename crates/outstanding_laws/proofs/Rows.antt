@@ -1,5 +1,5 @@
 -- What each row of a turn leaves of how the live lists were passed: by whom, and to which target.
-use Rattle.std.proofs.Common.{◌≡◌, ℕ, ◌+◌, ◌<◌, ◌≤◌, ◌==◌, Bool, true, false, List, Option, Some, None, option_map, length, refl, arith, ap, sym, subst, ◌∙◌}
+use Rattle.std.proofs.Common.{◌≡◌, ℕ, ◌+◌, ◌<◌, ◌≤◌, ◌==◌, ◌⊎◌, Bool, true, false, List, Option, Some, None, option_map, length, refl, arith, ap, sym, subst, ◌∙◌}
 use Rattle.std.proofs.lemmas.Bool.Decides.{nat_tests}
 use Rattle.ndis_base.specs.declared.ModuleId.{ModuleId}
 use Rattle.ndis_base.specs.declared.ModuleId.TheVariants.{Miniport, Filter, Binding}
@@ -47,6 +47,10 @@ abbrev pub GoesDown : Modules → ModuleId → Target → Type 0
 GoesDown ms owner Bindings = Unit {0}
 GoesDown ms owner (Module m) = (passes_sends ms m ≡ true) × (position ms.order owner < position ms.order m)
 
+-- a receive goes back to its owner, or to a filter of the order that passes receives
+abbrev pub GoesBack : Modules → ModuleId → Target → Type 0
+GoesBack ms owner to = (to ≡ Module owner) ⊎ ((f : ℕ) × (to ≡ Module (Filter f)) × (passes_receives ms (Filter f) ≡ true))
+
 -- how a list of an owner stands that a module had last
 abbrev pub Fits : Modules → Bool → ModuleId → ModuleId → Stand → Type 0
 Fits ms sends owner last stand.Unplaced = Unit {0}
@@ -55,7 +59,7 @@ Fits ms sends owner last (stand.Passed way.Down to) = (sends ≡ true) × GoesDo
 Fits ms sends owner last (stand.Passed way.Up to) = (sends ≡ false) × ((passes_receives ms last ≡ true) × ((to ≡ next_up ms (position ms.order last)) × (position ms.order last ≤ position ms.order owner)))
 Fits ms sends owner last (stand.Passed (way.Done status) to) =
     (sends ≡ true) × ((passes_sends ms last ≡ true) × ((to ≡ next_done ms (position ms.order last) owner) × (position ms.order owner < position ms.order last)))
-Fits ms sends owner last (stand.Passed (way.Back status) to) = sends ≡ false
+Fits ms sends owner last (stand.Passed (way.Back status) to) = (sends ≡ false) × GoesBack ms owner to
 
 abbrev pub IsRight : Modules → LiveList → Type 0
 IsRight ms l = Fits ms (is_down l.direction) l.owner l.last l.stand
@@ -195,7 +199,7 @@ module _ (ms : Modules) (start : Net) (begun : All (λ k x. k < start.next.list)
       }
 
   -- a receive goes back from wherever it is
-  pub back_good : (net : Net) (list : ListNo) (status : ListStatus) (to : Target) → ((x : LiveList) → look net list.0 ≡ Some x → is_down x.direction ≡ false) → Goes net → Goes (after net (row.Pass list (way.Back status) to))
+  pub back_good : (net : Net) (list : ListNo) (status : ListStatus) (to : Target) → ((x : LiveList) → look net list.0 ≡ Some x → (is_down x.direction ≡ false) × GoesBack ms x.owner to) → Goes net → Goes (after net (row.Pass list (way.Back status) to))
   back_good net list status to up h =
       let next : Net = after net (row.Pass list (way.Back status) to) in
       let u = look_pass net list (way.Back status) to in

@@ -49,7 +49,7 @@ use Rattle.place_laws.proofs.Looks.{look}
 use Rattle.place_laws.proofs.Keepers.{all_found}
 use Rattle.place_laws.proofs.Turns.{lists_stand}
 use Rattle.outstanding_laws.specs.Outstanding.{passes_sends, passes_receives, IsPassedAt, IsPassed, EachIsPassed}
-use Rattle.outstanding_laws.proofs.Rows.{May, MayKeep, GoesDown, Fits, IsRight, All}
+use Rattle.outstanding_laws.proofs.Rows.{May, MayKeep, GoesDown, GoesBack, Fits, IsRight, All}
 use Rattle.outstanding_laws.proofs.Moves.{Facts, Going}
 use Rattle.outstanding_laws.proofs.Events.{plain_leaves}
 
@@ -150,7 +150,7 @@ restart_mild net i =
 none_paused : (net : Net) → IsHeld net → phase_is_paused net.phase ≡ true → lists net.things ≡ []
 none_paused net h t = none_live net.modules h.shape.front (lists net.things) (at_phase net phase.Paused h.shape (when_paused net.phase t)).1.1 h.clear.each
 
-none_halted : (net : Net) → IsHeld net → net.phase ≡ phase.Halted → lists net.things ≡ []
+pub none_halted : (net : Net) → IsHeld net → net.phase ≡ phase.Halted → lists net.things ≡ []
 none_halted net h e = none_live net.modules h.shape.front (lists net.things) (at_phase net phase.Halted h.shape e).1 h.clear.each
 
 event_keeps : (net : Net) (e : Event) (c : Choice) → IsHeld net → is_plain e ≡ false → Keeps net e (outcome net e c)
@@ -241,13 +241,17 @@ module _ (ms other : Modules) (r : IsRouted ms other) where
   down_same owner Bindings h = tt
   down_same owner (Module m) h = (sends_same m h.0, less_same owner m h.1)
 
+  back_same : (owner : ModuleId) (to : Target) → GoesBack ms owner to → GoesBack other owner to
+  back_same owner to (inl e) = inl e
+  back_same owner to (inr g) = inr (g.0, g.1, receives_same (Filter g.0) g.2)
+
   fits_same : (sends : Bool) (owner last : ModuleId) (s : Stand) → Fits ms sends owner last s → Fits other sends owner last s
   fits_same sends owner last stand.Unplaced h = tt
   fits_same sends owner last (stand.Kept m) h = (h.0, keep_same sends owner m h.1)
   fits_same sends owner last (stand.Passed way.Down to) h = (h.0, down_same owner to h.1)
   fits_same sends owner last (stand.Passed way.Up to) h = (h.0, (receives_same last h.1.0, (h.1.1.0 ∙ up_same last, omega (arith, h.1.1.1, at_same last, at_same owner))))
   fits_same sends owner last (stand.Passed (way.Done status) to) h = (h.0, (sends_same last h.1.0, (h.1.1.0 ∙ done_same last owner, less_same owner last h.1.1.1)))
-  fits_same sends owner last (stand.Passed (way.Back status) to) h = h
+  fits_same sends owner last (stand.Passed (way.Back status) to) h = (h.0, back_same owner to h.1)
 
 -- no filter is twice in the order
 pub distinct_of : (net : Net) (s : IsShaped net) → IsDistinct net.modules.order
