@@ -1,2 +1,3 @@
 pub mod EachBinding
+pub mod Pausing
 pub mod Written

@@ -3,3 +3,4 @@
 #![tactic(auto)]
 
 pub mod floors;
+pub mod pauses;
