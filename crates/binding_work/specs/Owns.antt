@@ -1,5 +1,5 @@
 -- A receive that one binding takes.
-use Rattle.std.specs.Prelude.{◌≡◌, ℕ, ◌≤◌, ◌<◌, ◌^◌, ◌*◌, ◌∷◌, List, []}
+use Rattle.std.specs.Prelude.{◌≡◌, ℕ, ◌≤◌, ◌*◌, ◌∷◌, List, []}
 use Rattle.ndis_base.specs.declared.ModuleId.TheVariants.{Binding}
 use Rattle.journal_types.specs.declared.How.TheVariants.{Own, Lent}
 use Rattle.journal_types.specs.declared.PassWay.TheVariants as way
