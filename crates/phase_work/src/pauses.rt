@@ -1,5 +1,5 @@
 //! A pause begins.
-ghost use Rattle.std.specs.Prelude.{◌≡◌, length, IfSome, OnOk, OnErr, IfOk};
+ghost use Rattle.std.specs.Prelude.{◌≡◌, ◌≤◌, ◌^◌, length, IfSome, IfNone, OnOk, OnErr, IfOk};
 ghost use Rattle.journal_types.specs.declared.Event.TheVariants as event;
 ghost use Rattle.flat_journal.specs.Shown.{reply_of};
 ghost use Rattle.flat_journal.specs.Within.{ReplyWithin};
@@ -14,9 +14,11 @@ use flat_journal::{FlatReply, Room};
 use journal_types::Refusal;
 use ndis_base::{OutOfMemory, Phase};
 
-/// How many bindings the stack has, where a binding's number can tell them apart.
+/// How many bindings the stack has; None where they are 2 to the power of 32 or more, which no number of a binding
+/// tells apart.
 fn binding_count(tray: &Tray) -> Option<u32>
-    ensures { IfSome result (λ count. count ≡ length tray.now.net.modules.bindings) }
+    ensures all { IfSome result (λ count. count ≡ length tray.now.net.modules.bindings) }
+    ensures many { IfNone result (2 ^ 32 ≤ length tray.now.net.modules.bindings) }
 {
     let count = tray.modules().bindings().len();
     if count > u32::MAX as usize {
@@ -25,7 +27,8 @@ fn binding_count(tray: &Tray) -> Option<u32>
     Some(count as u32)
 }
 
-/// A Running stack begins to pause: its bindings pause first (WDK, "Pausing a Driver Stack").
+/// A Running stack begins to pause: its bindings pause first (WDK, "Pausing a Driver Stack"). It also answers want of
+/// memory where there are 2 to the power of 32 bindings or more.
 pub fn begin_pause<M: MiniportCalls, P: ProtocolCalls, F: FilterCalls>(
     book: &mut BookParts<M, P, F>,
 ) -> Result<FlatReply, OutOfMemory>
