@@ -1,6 +1,7 @@
 -- The tray: the journal and the turn under way, the state after its rows, what is on its way, and the pool of the
 -- module that is called. A driver's calls into the stack are written into it.
-use Rattle.std.specs.Prelude.{ℕ, ◌≡◌, ◌-◌, ◌<◌, ◌^◌, List, [], ◌∷◌, ◌++◌, Option, Some, None, length, sum_by}
+use Rattle.std.specs.Prelude.{ℕ, Bool, true, false, ◌≡◌, ◌-◌, ◌<◌, ◌^◌, List, [], ◌∷◌, ◌++◌, Option, Some, None, length, sum_by}
+use Rattle.ndis_base.specs.declared.ConfigNo.{ConfigNo}
 use Rattle.ndis_base.specs.declared.ModuleId.{ModuleId}
 use Rattle.ndis_base.specs.declared.ListNo.{ListNo}
 use Rattle.ndis_base.specs.declared.ListStatus.{ListStatus}
@@ -20,6 +21,7 @@ use Rattle.journal_types.specs.declared.Turn.{Turn}
 use Rattle.buffer_pools.specs.declared.label.Label.{Label}
 use Rattle.buffer_pools.specs.Views.{ListView, PoolView, Issues, Frees}
 use Rattle.agenda_items.specs.declared.Carried.{Carried}
+use Rattle.agenda_items.specs.declared.Carried.TheVariants.{List as a_list, Status as a_status, Answer as an_answer}
 use Rattle.agenda_items.specs.Views.{passed_by}
 use Rattle.flat_journal.specs.declared.types.FlatRow.{FlatRow}
 use Rattle.flat_journal.specs.declared.types.FlatRow.TheVariants as flat_row
@@ -75,6 +77,12 @@ turn_of t who e r = record { who = who; event = e; reply = r; rows = t.rows }
 abbrev pub ended : TrayView → Turn → TrayView
 ended t turn = record t { turns = t.turns ++ turn ∷ []; told_by = None; rows = []; room = record t.room { turns = t.room.turns - 1 } }
 
+-- a status that is on its way
+abbrev pub is_status_away : Carried → Bool
+is_status_away (a_status s) = true
+is_status_away (a_list l way to) = false
+is_status_away (an_answer a) = false
+
 -- the rows that change only lists, statuses, answers and messages
 abbrev pub IsSteady : FlatRow → Type 0
 IsSteady (flat_row.Give list m handler) = Unit {0}
@@ -103,6 +111,16 @@ framed t frames = record t {
   payloads = record t.payloads { frames = t.payloads.frames ++ frames };
   room = record t.room { frames = t.room.frames - length frames; bytes = t.room.bytes - sum_by length frames };
 }
+
+-- more filters, which a row can show, and the row of a configuration of these filters
+abbrev pub listed : TrayView → List ℕ → TrayView
+listed t filters = record t {
+  payloads = record t.payloads { filters = t.payloads.filters ++ filters };
+  room = record t.room { filters = t.room.filters - length filters };
+}
+
+abbrev pub configured : TrayView → ConfigNo → List ℕ → TrayView
+configured t config filters = written (listed t filters) (row.Config config filters)
 
 -- a list is on its way by a row that was written
 abbrev pub passed : TrayView → ListView → Row → TrayView

@@ -1,7 +1,9 @@
 //! The tray into which a driver writes its calls, and which the stack works off afterwards.
 #![tactic(auto)]
 
+pub mod holding;
 pub mod lists;
+pub mod on_way;
 pub mod states;
 pub mod telling;
 pub mod tray;

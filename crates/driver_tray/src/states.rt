@@ -1,18 +1,19 @@
 //! The rows of states, and what a tray is asked of the modules.
-ghost use Rattle.std.specs.Prelude.{◌≡◌, ◌+◌, ◌≤◌, ◌<◌, ◌^◌};
+ghost use Rattle.std.specs.Prelude.{◌≡◌, ◌+◌, ◌≤◌, ◌<◌, ◌^◌, length};
 ghost use Rattle.journal_types.specs.declared.Row.TheVariants as row;
 ghost use Rattle.stack_rules.specs.Outcome.{config_no, list_no};
-ghost use Rattle.stack_rules.specs.Pauses.{first_unpaused, running_floors};
+ghost use Rattle.stack_rules.specs.Pauses.{first_unpaused, floors, running_floors};
 ghost use Rattle.stack_rules.specs.Places.{state_of, pool_of};
 ghost use Rattle.stack_ledger.specs.Bare.{noted};
 ghost use Rattle.driver_tray.specs.Tray.{written, phase_filter};
 
 use crate::tray::Tray;
 use flat_journal::FlatRow;
-use journal_types::PhaseOf;
+use journal_types::{PhaseOf, StackHead};
 use ndis_base::{ConfigNo, ListNo, ModuleId, ModuleState, Phase};
 use stack_ledger::StackLedger;
 use stack_modules::StackModules;
+use stack_rules::Request;
 
 fn enter(ledger: &mut StackLedger, of: PhaseOf)
     requires { phase_filter of + 1 < 2 ^ 64 }
@@ -25,6 +26,34 @@ fn enter(ledger: &mut StackLedger, of: PhaseOf)
 }
 
 impl Tray {
+    /// What the stack is made of: its number, its miniport and its bindings.
+    pub fn head(&self) -> &StackHead
+        ensures { result.now ≡ self.now.net.head }
+    {
+        self.ledger.head()
+    }
+
+    /// The packet filter by which each binding is delivered to.
+    pub fn delivers_by(&self) -> &[u32]
+        ensures { result.now ≡ self.now.net.port.delivers_by }
+    {
+        self.ledger.delivers_by()
+    }
+
+    /// The requests that aren't done.
+    pub fn requests(&self) -> &[Request]
+        ensures { result.now ≡ self.now.net.requests }
+    {
+        self.ledger.requests()
+    }
+
+    /// How many positions the stack has: the bindings, each filter, and the miniport.
+    pub fn floors_count(&self) -> usize
+        ensures { result ≡ length (floors self.now.net.modules) }
+    {
+        self.ledger.floors_count()
+    }
+
     /// Writes that a module or the stack took a state.
     pub fn write_phase(&mut self, of: PhaseOf)
         requires filter { phase_filter of + 1 < 2 ^ 64 }

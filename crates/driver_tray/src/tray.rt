@@ -32,7 +32,7 @@ pub struct Tray {
     pub(crate) journal: FlatJournal,
     pub(crate) told: Option<Telling>,
     pub(crate) ledger: StackLedger,
-    queue: VecDeque<Carried>,
+    pub(crate) queue: VecDeque<Carried>,
     slack: usize,
     pub(crate) caller: ModuleId,
     pub(crate) pool: ListPool,

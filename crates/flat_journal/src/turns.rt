@@ -101,8 +101,8 @@ impl FlatJournal {
         Ok(flat_row(places, row))
     }
 
-    /// Copies what an event refers to.
-    fn copy_event(&mut self, alloc: Global, event: &Event) -> Result<FlatEvent, OutOfMemory>
+    /// Copies what an event refers to, so that a turn may be of it.
+    pub fn copy_event(&mut self, alloc: Global, event: &Event) -> Result<FlatEvent, OutOfMemory>
         ensures grows { OnlyGrows self.old self.new }
         ensures within { IfOk result (λ flat. EventWithin self.new.payloads flat) }
         ensures shown { IfOk result (λ flat. event_of self.new.payloads flat ≡ event.now) }
