@@ -1,5 +1,5 @@
 -- Where all things are lists and no request is live: what a pump finds, what is counted, and what rows keep.
-use Rattle.std.proofs.Common.{◌≡◌, ℕ, ◌+◌, ◌==◌, not, Bool, true, false, cond, List, [], ◌∷◌, ◌++◌, Option, Some, None, All, find, filter, map, length, count_by, refl, arith, ap, ap₂, sym, subst, ◌∙◌}
+use Rattle.std.proofs.Common.{◌≡◌, ℕ, ◌+◌, ◌==◌, not, Bool, true, false, cond, List, [], ◌∷◌, ◌++◌, Option, Some, None, All, find, filter, map, length, count_by, refl, arith, ap, ap₂, subst, ◌∙◌}
 use Rattle.std.proofs.lemmas.List.Elements.{All-nil, All-cons}
 use Rattle.ndis_base.specs.declared.ModuleId.{ModuleId}
 use Rattle.journal_types.specs.declared.OutWay.TheVariants as out
@@ -10,7 +10,7 @@ use Rattle.stack_rules.specs.declared.LiveList.{LiveList}
 use Rattle.stack_rules.specs.declared.Request.{Request}
 use Rattle.stack_rules.specs.declared.Thing.{Thing}
 use Rattle.stack_rules.specs.declared.Thing.TheVariants as thing
-use Rattle.stack_rules.specs.Net.{Net, first_oid, after, after_rows, lists, list_of, is_list, is_status, after_change, at_end, as_kept, as_passed, had_by, taken_by, without, without_status}
+use Rattle.stack_rules.specs.Net.{Net, first_oid, after, after_rows, lists, list_of, is_list, is_status, after_change, at_end, as_kept, as_passed, had_by, taken_by, without}
 use Rattle.stack_rules.specs.Places.{is_away, agenda_first}
 use Rattle.stack_rules.specs.Pauses.{is_status_thing, statuses_away, halt_items, live_items}
 use Rattle.stack_rules.specs.Requests.{Giving, giving_to, lowest_giving, entry_giving, or_else, next_giving, oid_modules, is_at_entry}
