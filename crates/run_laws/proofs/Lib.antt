@@ -1,0 +1,7 @@
+pub mod Turns
+pub mod Opening
+pub mod Pumping
+pub mod Pausing
+pub mod Ending
+pub mod Calls
+pub mod Wrong
