@@ -1,14 +1,9 @@
 -- What the calls of a run leave as it is.
-use Rattle.std.specs.Prelude.{◌≡◌, Bool, true, false, List}
-use Rattle.std.specs.List.{All}
+use Rattle.std.specs.Prelude.{◌≡◌, Bool, true, false}
 use Rattle.journal_types.specs.declared.Event.{Event}
 use Rattle.journal_types.specs.declared.Event.TheVariants as event
-use Rattle.journal_types.specs.declared.StackHead.{StackHead}
 use Rattle.journal_types.specs.declared.Turn.{Turn}
-use Rattle.stack_rules.specs.Net.{Net, after_turn, seen}
-use Rattle.stack_rules.specs.Sound.{Next, Sound}
-use Rattle.work_laws.specs.Bounds.{is_take}
-use Rattle.drain_laws.specs.Drains.{NoneCrossed}
+use Rattle.stack_rules.specs.Net.{Net, after_turn}
 
 -- the events of calls, of pumps and drains, and of messages between stacks
 abbrev pub is_call : Event → Bool
@@ -37,15 +32,3 @@ pub record IsStill (net now : Net) : Type 0 where
 -- they leave the phase and the modules as they are
 abbrev pub Stays : Net → Turn → Type 0
 Stays net turn = is_call turn.event ≡ true → IsStill net (after_turn net turn)
-
--- Where no list has crossed to another stack, none does but by a CrossTake.
-abbrev pub KeepsUncrossed : Type 0
-KeepsUncrossed =
-    (head : StackHead) (turns : List Turn) (turn : Turn) → Sound head turns → Next (seen head turns) turn →
-    is_take turn.event ≡ false → NoneCrossed (seen head turns) → NoneCrossed (after_turn (seen head turns) turn)
-
--- So none has after a sound journal without a CrossTake.
-abbrev pub NoneCrossUntaken : Type 0
-NoneCrossUntaken =
-    (head : StackHead) (turns : List Turn) → Sound head turns → All (λ turn. is_take turn.event ≡ false) turns →
-    NoneCrossed (seen head turns)

@@ -5,3 +5,4 @@ pub mod Pausing
 pub mod Ending
 pub mod Calls
 pub mod Wrong
+pub mod Crossing

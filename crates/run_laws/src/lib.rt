@@ -11,7 +11,8 @@ ghost use Rattle.run_laws.specs.Pumping.{Pumps};
 ghost use Rattle.run_laws.specs.Pausing.{Begins, Drains, Pauses};
 ghost use Rattle.run_laws.specs.Ending.{EmptiesRequests, EmptiesThings, Halts, IsBusy, KeepsNoRequests};
 ghost use Rattle.run_laws.specs.Wrong.{may_restart, NeedsPhase};
-ghost use Rattle.run_laws.specs.Calls.{KeepsUncrossed, NoneCrossUntaken, Stays};
+ghost use Rattle.run_laws.specs.Calls.{Stays};
+ghost use Rattle.run_laws.specs.Crossing.{DoneIsBack, KeepsNoneIn, KeepsUncrossed, NoneCrossedWhereDone, NoneCrossUntaken};
 
 /// A Halted stack is initialised, or its adapter refuses and nothing changes (WDK, "Initializing a Miniport
 /// Driver"). A restart that doesn't end leaves fewer positions to restart (WDK, "Restarting a Driver Stack").
@@ -70,4 +71,12 @@ pub fn calls_keep_the_phase()
 pub fn none_cross_untaken()
     ensures journal { NoneCrossUntaken }
     ensures turn { KeepsUncrossed }
+{}
+
+/// A list is with another stack from the turn that takes it until its message is done there (WDK, "NDIS MUX
+/// Intermediate Drivers"): where each message is done, no list has crossed.
+pub fn taken_lists_come_back()
+    ensures kept { KeepsNoneIn }
+    ensures done { DoneIsBack }
+    ensures journal { NoneCrossedWhereDone }
 {}

@@ -1,4 +1,4 @@
-use Rattle.run_laws.proofs.Calls.{keeps_uncrossed, none_cross_untaken}
+use Rattle.run_laws.proofs.Crossing.{keeps_uncrossed, none_cross_untaken}
 use Rattle.run_laws.proofs.none_cross_untaken.Goals as goal
 
 pub returns : goal.returns
