@@ -19,8 +19,7 @@ use Rattle.flat_journal.specs.Payloads.{Payloads}
 use Rattle.flat_journal.specs.Shown.{row_of}
 use Rattle.stack_rules.specs.Net.{Net, start, told, after, lists}
 use Rattle.rule_basics.specs.Live.{is_live}
-use Rattle.rule_basics.proofs.Lists.{lists-without_status}
-use Rattle.rule_basics.proofs.Numbered.{numbered_after, numbered_start, next_is_free}
+use Rattle.rule_basics.proofs.Numbered.{numbered_after, numbered_start, next_is_free, lists-without_status}
 use Rattle.waiting_lists.specs.Waiting.{WaitView, Tells}
 use Rattle.waiting_lists.proofs.Tells.{tells_same, tells_given, tells_turned_back, tells_kept, tells_passed, tells_homed, tells_issued, with_clone}
 use Rattle.driver_tray.specs.Tray.{IsSteady, issue_row}
@@ -66,8 +65,8 @@ waits_steady net p (flat_row.Seen number m) w slack s h =
 waits_steady net p (flat_row.CrossOut message way frames) w slack s h = absurd s
 waits_steady net p (flat_row.CrossIn stack message way frames) w slack s h = h
 
-pub waits_written : (net now : Net) (p : Payloads) (r : FlatRow) (w then : WaitView) (slack : ℕ) → IsSteady r → now ≡ after net (row_of p r) → then ≡ waits_after r w → HasWaits net w slack → HasWaits now then slack
-waits_written net now p r w then slack s e f h =
+pub waits_written : (net now : Net) (p : Payloads) (r : FlatRow) (w left : WaitView) (slack : ℕ) → IsSteady r → now ≡ after net (row_of p r) → left ≡ waits_after r w → HasWaits net w slack → HasWaits now left slack
+waits_written net now p r w left slack s e f h =
     waits_same e (subst (λ (v : WaitView). HasWaits (after net (row_of p r)) v slack) (sym f) (waits_steady net p r w slack s h))
 
 -- rows that tell states, a configuration, or frames on the wire
@@ -95,7 +94,7 @@ free_of net n w slack e h = ap (λ k. is_live k (lists net.things)) e ∙ next_i
 pub waits_issued : (net : Net) (label : Label) (frames : List (List ℕ)) (w : WaitView) (slack : ℕ) → label.number.0 ≡ net.next.list → label.origin ≡ origin.Root → HasWaits net w slack → HasWaits (after net (issue_row label frames)) w slack
 waits_issued net label frames w slack number root h =
     let told : Tells (after net (issue_row label frames)) (with_clone label.origin label.number w) =
-        tells_issued net label.number label.owner label.config label.direction label.cancel label.origin frames w h.tells (free_of net label.number.0 w slack number h) in
+    tells_issued net label.number label.owner label.config label.direction label.cancel label.origin frames w h.tells (free_of net label.number.0 w slack number h) in
     record {
       tells = subst (λ (o : Origin). Tells (after net (issue_row label frames)) (with_clone o label.number w)) root told;
       numbered = numbered_after net (issue_row label frames) number h.numbered;
@@ -110,9 +109,9 @@ pub waits_cloned : (net : Net) (label : Label) (original : ListNo) (frames : Lis
     → HasWaits net w slack → HasWaits (after net (issue_row label frames)) (one_clone label.number original w) (slack - 1)
 waits_cloned net label original frames w slack number clone some h =
     let told : Tells (after net (issue_row label frames)) (with_clone label.origin label.number w) =
-        tells_issued net label.number label.owner label.config label.direction label.cancel label.origin frames w h.tells (free_of net label.number.0 w slack number h) in
+    tells_issued net label.number label.owner label.config label.direction label.cancel label.origin frames w h.tells (free_of net label.number.0 w slack number h) in
     let so : Tells (after net (issue_row label frames)) (with_clone (origin.Clone original) label.number w) =
-        subst (λ (o : Origin). Tells (after net (issue_row label frames)) (with_clone o label.number w)) clone told in
+    subst (λ (o : Origin). Tells (after net (issue_row label frames)) (with_clone o label.number w)) clone told in
     record {
       tells = record { clones = so.clones; crossed = so.crossed };
       numbered = numbered_after net (issue_row label frames) number h.numbered;

@@ -12,15 +12,15 @@ use Rattle.driver_tray.proofs.Rows.{row_more, journal_written, net_written, show
 use Rattle.driver_tray.proofs.Waits.{waits_same, waits_cloned}
 use Rattle.driver_tray.proofs.tray.Tray.issue_clone.Goals as goal
 
-abbrev row_now : goal.After-enqueue → Row
+abbrev row_now : goal.After-self-1 → Row
 row_now c = issue_row c.args.label (frames_at c.self.inside.journal.payloads.frames c.args.span)
 
-journal_is : (c : goal.After-enqueue) → c.write_issue.new.journal ≡ row_more c.self.inside.journal (row_now c)
+journal_is : (c : goal.After-self-1) → c.write_issue.new.journal ≡ row_more c.self.inside.journal (row_now c)
 journal_is c =
     journal_written c.self.inside.journal c.write_issue.new.journal (row_now c) c.write_issue.ensures.head c.write_issue.ensures.turns c.write_issue.ensures.rows c.write_issue.ensures.payloads
     c.write_issue.ensures.room
 
-net_is : (c : goal.After-enqueue) → net_of c.write_issue.new.journal c.self.inside.told ≡ after (net_of c.self.inside.journal c.self.inside.told) (row_now c)
+net_is : (c : goal.After-self-1) → net_of c.write_issue.new.journal c.self.inside.told ≡ after (net_of c.self.inside.journal c.self.inside.told) (row_now c)
 net_is c = ap (λ (v : FlatView). net_of v c.self.inside.told) (journal_is c) ∙ net_written c.self.inside.journal c.self.inside.told (row_now c)
 
 pub invariant_of-self : goal.invariant_of-self
