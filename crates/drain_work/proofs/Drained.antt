@@ -29,7 +29,7 @@ use Rattle.drain_work.proofs.FirstRows.{first_none, first_some, drained_reply, d
 use Rattle.drain_work.proofs.Rings.{no_pump}
 use Rattle.drain_work.proofs.Sames.{book_is, gives_then, gives_rows}
 
--- nobody but the drivers that keep lists chooses anything here
+-- no driver chooses anything in such a drain
 abbrev pub no_choice : Choice
 no_choice = record { keeps = false; refuses = false; shelf_empty = false }
 

@@ -1,8 +1,8 @@
-use Rattle.std.proofs.Common.{◌≡◌, sym, ap, ◌∙◌, subst}
+use Rattle.std.proofs.Common.{◌≡◌, sym, ap, ◌∙◌}
 use Rattle.flat_journal.specs.Flat.{FlatView}
 use Rattle.stack_ledger.specs.Bare.{bare}
 use Rattle.driver_tray.specs.Tray.{TrayView}
-use Rattle.driver_tray.specs.Inside.{net_of, shown_of, ToldWithin}
+use Rattle.driver_tray.specs.Inside.{net_of, shown_of}
 use Rattle.driver_tray.proofs.Rows.{payloads_are, journal_grown, net_grown, within_grown, shown_grown}
 use Rattle.driver_tray.proofs.Waits.{waits_same}
 use Rattle.driver_tray.proofs.tray.Tray.hold_event.Goals as goal
