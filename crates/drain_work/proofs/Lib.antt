@@ -1,0 +1,9 @@
+pub mod FirstRows
+pub mod EachGiven
+pub mod Places
+pub mod Sames
+pub mod Emptied
+pub mod Returned
+pub mod Passed
+pub mod Rings
+pub mod Drained
