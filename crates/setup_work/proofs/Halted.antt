@@ -1,5 +1,6 @@
 -- While a stack is Halted its drivers keep nothing, so they may be set up.
 use Rattle.std.proofs.Common.{◌≡◌, ℕ, ◌<◌, List, [], ◌∷◌, filter, map, length, slice_index_or, All, refl, sym, ap, ◌∙◌, subst, arith}
+use Rattle.std.proofs.lemmas.List.{length-map}
 use Rattle.std.proofs.lemmas.List.Elements.{All-from_get_or}
 use Rattle.ndis_base.specs.declared.ModuleId.{ModuleId}
 use Rattle.ndis_base.specs.declared.ModuleId.TheVariants.{Miniport, Binding}
@@ -11,6 +12,7 @@ use Rattle.stack_rules.specs.Net.{Net, seen, lists}
 use Rattle.stack_rules.specs.Places.{is_kept_by, kept_lists}
 use Rattle.work_laws.proofs.Halted.{HasNothing, nothing_while_halted}
 use Rattle.hand_lemmas.specs.Hands.{in_hand, in_state}
+use Rattle.driver_views.specs.States.{ProtocolState}
 use Rattle.driver_calls.specs.Miniports.{MayInitialize}
 use Rattle.driver_calls.specs.Protocols.{MayOpen}
 use Rattle.driver_tray.specs.Tray.{TrayView}
@@ -49,9 +51,9 @@ may_open v k i halted =
     (λ j within. record { is_open = (halted_drivers v k halted).1 j no_protocol within; kept = nothing_kept v k i halted (Binding j) })
 
 -- there are as many protocols as bindings
-pub few_protocols : (v : BookView) (many most : ℕ) → IsBook v → IsIdle v → many ≡ length v.tray.net.modules.bindings → many < most → length v.held.protocols < most
-few_protocols v many most k i all few = omega (arith, k.stands.protocols, bindings_count (between v k i), all, few)
+pub few_protocols : {X : Type 0} (v : BookView) (f : X → ProtocolState) (xs : List X) (many : ℕ) → IsBook v → IsIdle v → v.held.protocols ≡ map f xs → many ≡ length v.tray.net.modules.bindings → length xs ≡ many
+few_protocols v f xs many k i are all = omega (arith, k.stands.protocols, bindings_count (between v k i), all, ap length are, length-map xs f)
 
 -- so they may be where an event found the stack Halted
-pub was_halted : {old : BookView} {b : TrayView} → Begins old.tray b [] → phase.Halted ≡ b.net.phase → old.tray.net.phase ≡ phase.Halted
-was_halted g halted = ap (λ (n : Net). n.phase) (sym g.net) ∙ sym halted
+pub was_halted : (old : BookView) (b : TrayView) → Begins old.tray b [] → phase.Halted ≡ b.net.phase → old.tray.net.phase ≡ phase.Halted
+was_halted old b g halted = ap (λ (n : Net). n.phase) (sym g.net) ∙ sym halted

@@ -31,7 +31,8 @@ use Rattle.agenda_items.specs.declared.Carried.{Carried}
 use Rattle.driver_views.specs.States.{MiniportState, ProtocolState}
 use Rattle.hand_lemmas.specs.Hands.{IsSame}
 use Rattle.hand_lemmas.proofs.Rows.{agrees_same, configured}
-use Rattle.driver_tray.specs.Tray.{TrayView}
+use Rattle.driver_tray.specs.Tray.{TrayView, written}
+use Rattle.driver_tray.specs.Tray as tray
 use Rattle.book_lemmas.specs.Did.{Did}
 use Rattle.book_lemmas.specs.Leaves.{ArePhases, IsSeatedStill, WasAttached}
 use Rattle.book_lemmas.specs.Stands.{Stands, AllSized, IsSized, IsPoolOf, IsSeated, DriversFit}
@@ -42,10 +43,12 @@ use Rattle.book_lemmas.proofs.Phases.{phases_agree, still_phases}
 use Rattle.book_parts.specs.Events.{IsBook, IsIdle, DidEvent, IsUnmoved}
 use Rattle.book_parts.proofs.Events.{Begins, Ends, begins_stands, did_event, ends_still, unmoved}
 use Rattle.phase_work.specs.Written.{CountsNothing, each_written, bindings_from}
+use Rattle.phase_work.proofs.EachBinding.{each_append}
 use Rattle.phase_work.proofs.Pausing.{all_bindings}
 use Rattle.phase_work.proofs.Written.{HasWritten, has_written, did_nothing, ends_phases}
 use Rattle.setup_work.specs.SetUp.{opened, ported, set_up, phases_up, written_up, AreSetUp, HasRefused, AreSame}
 use Rattle.setup_work.proofs.Halted.{was_halted}
+use Rattle.setup_work.proofs.Positions.{bindings_count, room_after}
 use Rattle.setup_work.proofs.Protocols.{opened_field}
 use Rattle.setup_work.proofs.Rows.{twice, twice_phases, twice_length, bare_config, config_written, config_calls, config_logs, written_then}
 
@@ -157,7 +160,7 @@ ends_up old b n k g =
       told_by = w.told_by ∙ g.told_by;
       net = w.net ∙ ap (λ x. after_rows x rows) g.net;
       rows_are = w.rows_are ∙ ap (λ rs. rs ++ rows) g.rows;
-      used = record { rows_used = used.rows_used; frames = used.frames; bytes = used.bytes; slack = used.slack; turns = used.turns };
+      used = record { rows_used = used.rows_used; frames = used.frames; bytes = used.bytes; slack = used.slack; turns = used.turns; payloads = used.payloads };
       did = subst (λ (x : Net). Did old.held.seats old.held up x rows) g.net
           (did_nothing old.held.seats old.held up b.net rows (config_calls b.net (phases_up n) (config_no 1) (up_phases n)) (λ m. config_logs m (phases_up n) (config_no 1) (up_phases n)) (counts_up port old.held));
       stands = subst (λ (x : Net). Stands x t.queue up []) (sym net_is) (subst (λ q. Stands (bared b.net (phases_up n) (config_no 1)) q up []) (sym w.queue) stands);
@@ -181,7 +184,7 @@ initialized old b t held n k i g halted all made up =
     let ends : Ends old (record { tray = t; held = held }) rows =
     subst (λ x. Ends old (record { tray = x; held = held }) rows) (sym made)
     (subst (λ h. Ends old (record { tray = written_up b n; held = h }) rows) (sym up) (ends_up old b n k g)) in
-    let is : initialize_outcome old.tray.net false ≡ record { reply = reply.Ok; rows = initialize_rows old.tray.net } = halted_outcome old.tray.net false _ (sym (was_halted g halted)) refl in
+    let is : initialize_outcome old.tray.net false ≡ record { reply = reply.Ok; rows = initialize_rows old.tray.net } = halted_outcome old.tray.net false _ (sym (was_halted old b g halted)) refl in
     did_event old _ rows event.Initialize (choosing false) reply.Ok k i ends (ap (λ (o : Outcome). o.reply) (sym is)) (rows_are n old.tray.net all ∙ ap (λ (o : Outcome). o.rows) (sym is)) refl
 
 -- the miniport refused
@@ -225,7 +228,7 @@ pub not_initialized : (old : BookView) (b : TrayView) (held : HeldView) → IsBo
 not_initialized old b held k i g halted r same =
     let ends : Ends old (record { tray = b; held = held }) [] =
     subst (λ h. Ends old (record { tray = b; held = h }) []) (sym (held_refused old.held held r same)) (ends_refused old b held.miniport.refusals k g) in
-    let is : initialize_outcome old.tray.net true ≡ refused refusal.InitRefused = halted_outcome old.tray.net true _ (sym (was_halted g halted)) refl in
+    let is : initialize_outcome old.tray.net true ≡ refused refusal.InitRefused = halted_outcome old.tray.net true _ (sym (was_halted old b g halted)) refl in
     did_event old _ [] event.Initialize (choosing true) _ k i ends (ap (λ (o : Outcome). o.reply) (sym is)) (ap (λ (o : Outcome). o.rows) (sym is)) refl
 
 -- the stack isn't Halted
@@ -256,3 +259,19 @@ pub turns_left : (b t : TrayView) (n : ℕ) → 1 ≤ b.room.turns → t ≡ wri
 turns_left b t n turns made =
     let used = (up_written n b).used.turns in
     omega (arith, turns, used, ap (λ (x : TrayView). x.room.turns) made)
+
+-- the rows are written one after the other
+pub room_up : (t a b : TrayView) (n : ℕ) → n * 2 + 3 ≤ t.room.rows → a ≡ written t (state_row state.Paused Miniport) → b ≡ each_written a (twice state.Opening state.Paused (bindings_from 0 n)) → 2 ≤ b.room.rows
+room_up t a b n room first then =
+    let many : length (twice state.Opening state.Paused (bindings_from 0 n)) ≡ n * 2 = twice_length state.Opening state.Paused (bindings_from 0 n) ∙ ap (λ k. k * 2) (bindings_count 0 n) in
+    room_after a b (twice state.Opening state.Paused (bindings_from 0 n)) 2 then (omega (arith, many, room, ap (λ (x : TrayView). x.room.rows) first))
+
+pub made_up : (t a b c d : TrayView) (n : ℕ) → a ≡ written t (state_row state.Paused Miniport) → b ≡ each_written a (twice state.Opening state.Paused (bindings_from 0 n)) → c ≡ written b (row.Phase (of.Stack phase.Paused))
+    → d ≡ tray.configured c (config_no 1) [] → d ≡ written_up t n
+made_up t a b c d n first second third last =
+    let bound : List Row = twice state.Opening state.Paused (bindings_from 0 n) in
+    let paused : Row = row.Phase (of.Stack phase.Paused) in
+    last
+    ∙ ap (λ x. tray.configured x (config_no 1) [])
+    (third ∙ ap (λ x. written x paused) (second ∙ ap (λ x. each_written x bound) first)
+    ∙ sym (each_append bound (paused ∷ []) (written t (state_row state.Paused Miniport))))

@@ -36,10 +36,14 @@ port_below ms i within e =
     let at : length ms.order + 1 - i ≡ suc (length ms.order) = omega (arith, e) in
     sym (from_top ms i within ∙ ap (λ j. get_or (floors ms) j []) at ∙ low_miniport ms.order)
 
-pub filter_below : (ms : Modules) (i : ℕ) → i < length (floors ms) → 0 < i → i ≤ length ms.order → one (Filter (get_or ms.order (length ms.order - i) 0)) ≡ get_or (reverse (floors ms)) i []
+filter_below : (ms : Modules) (i : ℕ) → i < length (floors ms) → 0 < i → i ≤ length ms.order → one (Filter (get_or ms.order (length ms.order - i) 0)) ≡ get_or (reverse (floors ms)) i []
 filter_below ms i within some there =
     let at : length ms.order + 1 - i ≡ suc (length ms.order - i) = omega (arith, some, there) in
     sym (from_top ms i within ∙ ap (λ j. get_or (floors ms) j []) at ∙ low_filter ms.order (length ms.order - i) (omega (arith, some, there)))
+
+pub filter_below_at : (ms : Modules) (order : List ℕ) (i : ℕ) → order ≡ ms.order → i < length (floors ms) → 0 < i → i ≤ length order → one (Filter (get_or order (length order - i) 0)) ≡ get_or (reverse (floors ms)) i []
+filter_below_at ms order i e within some there =
+    ap (λ fs. one (Filter (get_or fs (length fs - i) 0))) e ∙ filter_below ms i within some (omega (arith, there, ap length e))
 
 pub top_below : (ms : Modules) (i n : ℕ) → i < length (floors ms) → length ms.order < i → n ≡ length ms.bindings → bindings_from 0 n ≡ get_or (reverse (floors ms)) i []
 top_below ms i n within above all =
@@ -86,7 +90,7 @@ has_seat seats drivers f s e = none s.place (sym s.seat ∙ e)
     none a h = cc
 
 -- how many modules a position has
-bindings_count : (b n : ℕ) → length (bindings_from b n) ≡ n
+pub bindings_count : (b n : ℕ) → length (bindings_from b n) ≡ n
 bindings_count b zero = refl
 bindings_count b (suc n) = ap suc (bindings_count (b + 1) n)
 
@@ -113,6 +117,13 @@ step_written t a b c begins place top first then last =
 
 pub room_after : (t a : TrayView) (rows : List Row) (n : ℕ) → a ≡ each_written t rows → length rows + n ≤ t.room.rows → n ≤ a.room.rows
 room_after t a rows n made enough = omega (arith, ap (λ (x : TrayView). x.room.rows) made, room_left rows t, enough)
+
+-- room for the rows of a step
+pub room_for_last : (t a b : TrayView) (begins : Bool) (place : Floor) → floor_room place + 2 ≤ t.room.rows → a ≡ each_written t (phase_when begins phase.Restarting) → b ≡ each_written a (floor_rows place) → 1 ≤ b.room.rows
+room_for_last t a b begins place room first then =
+    let few = told_count begins phase.Restarting in
+    let left : floor_room place + 1 ≤ a.room.rows = room_after t a (phase_when begins phase.Restarting) (floor_room place + 1) first (omega (arith, few, room)) in
+    room_after a b (floor_rows place) 1 then (omega (arith, left, rows_count place))
 
 -- the rows of a step are those of the lowest position that doesn't run
 pub steps_are : (net : Net) (begins : Bool) (place : Floor) (top : Bool) → modules_of place ≡ next_floor net → top ≡ is_top net (running_floors net) → step_rows begins place top ≡ next_rows net begins

@@ -1,5 +1,5 @@
 -- Rows of phases of modules that take two states, and the row of a configuration without filters: nobody is called.
-use Rattle.std.proofs.Common.{◌≡◌, ℕ, ◌*◌, ◌+◌, List, [], ◌∷◌, ◌++◌, length, flat_map, refl, sym, ap, ◌∙◌, arith, append_assoc}
+use Rattle.std.proofs.Common.{◌≡◌, ℕ, ◌*◌, ◌+◌, List, [], ◌∷◌, ◌++◌, length, flat_map, refl, sym, ap, ◌∙◌, subst, arith, append_assoc, append-nil}
 use Rattle.std.proofs.Math.Nat.{suc-mul}
 use Rattle.ndis_base.specs.declared.ConfigNo.{ConfigNo}
 use Rattle.ndis_base.specs.declared.ModuleId.{ModuleId}
@@ -7,6 +7,8 @@ use Rattle.ndis_base.specs.declared.ModuleId.TheVariants.{Miniport, Filter, Bind
 use Rattle.ndis_base.specs.declared.ModuleState.{ModuleState}
 use Rattle.journal_types.specs.declared.Row.{Row}
 use Rattle.journal_types.specs.declared.Row.TheVariants as row
+use Rattle.flat_journal.specs.Grows.{Grows}
+use Rattle.flat_journal.proofs.Grown.{grows_nothing}
 use Rattle.stack_rules.specs.Net.{Net, after, after_rows}
 use Rattle.stack_rules.specs.Pauses.{state_row, state_rows}
 use Rattle.promise_rules.specs.Calls.{logged_at}
@@ -49,6 +51,9 @@ written_then a b c xs ys g k = record {
 abbrev pub bare_config : ConfigNo → List Row
 bare_config config = row.Config config [] ∷ []
 
+nothing_listed : (t : TrayView) → Grows t.payloads (configured t (record { 0 = 0 }) []).payloads
+nothing_listed t = subst (λ fs. Grows t.payloads (record t.payloads { filters = fs })) (sym (append-nil t.payloads.filters)) (grows_nothing t.payloads)
+
 pub config_written : (t : TrayView) (config : ConfigNo) → HasWritten t (bare_config config) (configured t config [])
 config_written t config =
     let one : length (bare_config config) ≡ 1 = refl in
@@ -59,7 +64,7 @@ config_written t config =
       turns = refl;
       told_by = refl;
       queue = refl;
-      used = record { rows_used = omega (arith, one); frames = omega arith; bytes = omega arith; slack = omega arith; turns = omega arith };
+      used = record { rows_used = omega (arith, one); frames = omega arith; bytes = omega arith; slack = omega arith; turns = omega arith; payloads = nothing_listed t };
     }
 
 -- nobody is called, and nothing is logged

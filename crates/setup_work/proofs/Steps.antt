@@ -46,9 +46,10 @@ use Rattle.setup_work.proofs.Halted.{between}
 use Rattle.setup_work.proofs.Rows.{twice, twice_phase, twice_phases}
 
 -- the phases in which a step may be made
-pub data IsStepping : Phase → Type 0 where
-  begins : IsStepping phase.Paused
-  goes_on : IsStepping phase.Restarting
+abbrev pub IsStepping : Phase → Type 0
+IsStepping phase.Paused = Unit {0}
+IsStepping phase.Restarting = Unit {0}
+IsStepping _ = ⊥
 
 -- a position is left, of a stack with a binding, and its filters have numbers below the next one
 record IsLeft (net : Net) : Type 0 where
@@ -56,14 +57,17 @@ record IsLeft (net : Net) : Type 0 where
   pub below : AllBelow net.next.filter net.modules.order
 
 left_at : (net : Net) (p : Phase) (s : IsShaped net) → 0 < length net.head.bindings → net.phase ≡ p → IsStepping p → IsLeft net
-left_at net phase.Paused s some e begins =
+left_at net phase.Halted s some e h = absurd h
+left_at net phase.Running s some e h = absurd h
+left_at net phase.Pausing s some e h = absurd h
+left_at net phase.Paused s some e h =
     let f = at_phase net phase.Paused s e in
     let q : ℕ = length net.modules.order + 2 in
     let many : ℕ = length net.head.bindings in
     let states : StatesAre many net.modules (state_at q q) = StatesAre-same (λ p. state.Paused) (state_at q q) many net.modules (λ i a. all_paused_at q i (omega (arith, a))) f.1.0 in
     let run = (running_floors_are net many q (omega arith) (omega arith) states).0 some in
     record { left = omega (arith, run, length-floors net.modules); below = f.0.below }
-left_at net phase.Restarting s some e goes_on =
+left_at net phase.Restarting s some e h =
     let f = at_phase net phase.Restarting s e in
     let many : ℕ = length net.head.bindings in
     let run = (running_floors_are net many s.front f.1.some (omega (arith, f.1.within)) f.1.states).0 some in
@@ -78,8 +82,11 @@ is_left v k i stepping =
 
 -- the stack isn't Halted, so its filters have their drivers
 not_halted : (p : Phase) → IsStepping p → ¬ (p ≡ phase.Halted)
-not_halted phase.Paused begins e = cc
-not_halted phase.Restarting goes_on e = cc
+not_halted phase.Halted h e = h
+not_halted phase.Paused h e = cc
+not_halted phase.Restarting h e = cc
+not_halted phase.Running h e = h
+not_halted phase.Pausing h e = h
 
 sits_in : (v : BookView) → IsBook v → IsIdle v → ¬ (v.tray.net.phase ≡ phase.Halted) → (f : ℕ) → is_in f v.tray.net.modules.order ≡ true → Sits v.held.seats (length v.held.filters) f
 sits_in v k i other f inside =
@@ -88,10 +95,10 @@ sits_in v k i other f inside =
     let seat = subst (λ n. seat_of v.held.seats n ≡ Some s.place) a.2 s.seat in
     record { place = s.place; seat = seat; within = (k.stands.places f s.place seat).driver }
 
-pub can_restart : (old : BookView) (b : TrayView) (many : ℕ) → IsBook old → IsIdle old → Begins old.tray b [] → IsStepping b.net.phase → many ≡ length old.tray.net.modules.bindings → old.tray.net.next.filter < 2 ^ 64 → many * 2 + 4 ≤ b.room.rows
+pub can_restart : (old : BookView) (b : TrayView) (many : ℕ) (p : Phase) → IsBook old → IsIdle old → Begins old.tray b [] → p ≡ b.net.phase → IsStepping p → many ≡ length old.tray.net.modules.bindings → old.tray.net.next.filter < 2 ^ 64 → many * 2 + 4 ≤ b.room.rows
     → CanRestart (record { tray = b; held = old.held }) many
-can_restart old b many k i g stepping all fits room =
-    let was : IsStepping old.tray.net.phase = subst (λ (n : Net). IsStepping n.phase) g.net stepping in
+can_restart old b many p k i g phase_is stepping all fits room =
+    let was : IsStepping old.tray.net.phase = subst IsStepping (phase_is ∙ ap (λ (n : Net). n.phase) g.net) stepping in
     let here : IsLeft old.tray.net = is_left old k i was in
     record {
       left = subst (λ (n : Net). running_floors n < length (floors n.modules)) (sym g.net) here.left;
@@ -154,8 +161,11 @@ step_outcome : (net : Net) → IsStepping net.phase → restart_outcome net ≡ 
 step_outcome net stepping = cond-true (phase_is_paused net.phase || phase_is_restarting net.phase) _ _ (is net.phase stepping)
   where
     is : (p : Phase) → IsStepping p → (phase_is_paused p || phase_is_restarting p) ≡ true
-    is phase.Paused begins = refl
-    is phase.Restarting goes_on = refl
+    is phase.Halted h = absurd h
+    is phase.Paused h = refl
+    is phase.Restarting h = refl
+    is phase.Running h = absurd h
+    is phase.Pausing h = absurd h
 
 ends_step : (old : BookView) (b : TrayView) (begun : Bool) → IsBook old → Begins old.tray b [] → IsStepping b.net.phase → Ends old (record { tray = each_written b (next_rows b.net begun); held = old.held }) (next_rows b.net begun)
 ends_step old b begun k g stepping =
@@ -164,9 +174,11 @@ ends_step old b begun k g stepping =
     ends_moved (next_rows b.net begun) k g (step_phases b.net begun)
     (ported b.net.head.port old.held (after_rows b.net (next_rows b.net begun)).phase (step_other b.net b.net begun other) (port_of b.net.head.port old.held b.net.phase other drivers))
 
-pub restarted : (old : BookView) (b t : TrayView) (held : HeldView) (begun : Bool) (answer : Reply) → IsBook old → IsIdle old → Begins old.tray b [] → IsStepping b.net.phase → begun ≡ phase_is_paused b.net.phase
+pub restarted : (old : BookView) (b t : TrayView) (held : HeldView) (begun : Bool) (answer : Reply) (p : Phase) → IsBook old → IsIdle old → Begins old.tray b [] → p ≡ b.net.phase → IsStepping p → begun ≡ phase_is_paused p
     → t ≡ each_written b (next_rows b.net begun) → held ≡ old.held → answer ≡ next_reply b.net → DidEvent old (record { tray = t; held = held }) event.RestartNext answer
-restarted old b t held begun answer k i g stepping told made same answered =
+restarted old b t held begun answer p k i g phase_is steps told_at made same answered =
+    let stepping : IsStepping b.net.phase = subst IsStepping phase_is steps in
+    let told : begun ≡ phase_is_paused b.net.phase = told_at ∙ ap phase_is_paused phase_is in
     let rows : List Row = next_rows b.net begun in
     let ends : Ends old (record { tray = t; held = held }) rows =
     subst (λ x. Ends old (record { tray = x; held = held }) rows) (sym made)

@@ -6,10 +6,10 @@ ghost use Rattle.driver_calls.specs.Miniports.{MayInitialize};
 ghost use Rattle.driver_calls.specs.Protocols.{MayOpen};
 ghost use Rattle.setup_work.specs.SetUp.{opened, closed, AreSetUp, HasRefused, AreSame};
 
+use crate::vlans::vlans_of;
 use driver_calls::{AttachFault, MiniportCalls, ProtocolCalls};
 use driver_tray::Tray;
 use ndis_base::{ModuleId, OutOfMemory};
-use plain_ports::messages::vlans_of;
 use std::alloc::Global;
 
 /// Opens the protocol of a binding: the lists of its pool, and the VLANs of the virtual miniports above it, in

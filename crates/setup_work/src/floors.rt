@@ -1,9 +1,9 @@
 //! The position that restarts, and its drivers.
-ghost use Rattle.std.specs.Prelude.{◌≡◌, ◌+◌, ◌<◌, ◌^◌, [], length, map, reverse, slice_index_or};
+ghost use Rattle.std.specs.Prelude.{◌≡◌, ◌+◌, ◌*◌, ◌≤◌, ◌<◌, [], length, map, reverse, slice_index_or};
 ghost use Rattle.stack_rules.specs.Pauses.{floors};
 ghost use Rattle.book_lemmas.specs.Views.{seat_of};
 ghost use Rattle.book_parts.specs.Parts.{held_of};
-ghost use Rattle.setup_work.specs.Floors.{modules_of, IsOf, Sits, SitsOn};
+ghost use Rattle.setup_work.specs.Floors.{modules_of, floor_room, IsOf, Sits, SitsOn};
 
 use book_parts::BookParts;
 use driver_calls::{FilterCalls, MiniportCalls, ProtocolCalls};
@@ -23,6 +23,7 @@ pub fn floor_at(tray: &Tray, from_below: usize, bindings: u32) -> Floor
     requires bindings { bindings ≡ length tray.now.net.modules.bindings }
     ensures modules { modules_of result ≡ slice_index_or (reverse (floors tray.now.net.modules)) from_below [] }
     ensures order { IsOf tray.now.net.modules.order result }
+    ensures room { floor_room result ≤ bindings * 2 + 2 }
 {
     let order = tray.order();
     if from_below == 0 {

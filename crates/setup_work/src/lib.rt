@@ -5,6 +5,7 @@ pub mod drivers;
 pub mod floors;
 pub mod initial;
 pub mod restarts;
+pub mod vlans;
 
 pub use crate::initial::initialize;
 pub use crate::restarts::restart_next;

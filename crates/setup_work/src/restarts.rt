@@ -90,8 +90,9 @@ fn restart_step<M: MiniportCalls, P: ProtocolCalls, F: FilterCalls>(
     ensures answer { reply_of book.new.tray.payloads result ≡ next_reply book.old.tray.net }
     ensures within { ReplyWithin book.new.tray.payloads result }
 {
+    let count = book.tray.floors_count();
     let at = book.tray.running_floors();
-    let top = at + 1 == book.tray.floors_count();
+    let top = at + 1 == count;
     let floor = floor_at(&book.tray, at, bindings);
     restart_floor(book, floor);
     write_step(&mut book.tray, begins, floor, top);

@@ -11,9 +11,9 @@ pub returns-in_err-open_binding-clause-memory : goal.returns-in_err-open_binding
 returns-in_err-open_binding-clause-memory g t c = now_err _ _ (unseen_at _ _ _ _ _ c.index_mut.ensures.value c.in_err-open_binding.ensures.memory)
 
 pub open_from-requires : goal.open_from-requires
-open_from-requires g t c =
+open_from-requires g t c κs lent =
     let within : c.args.from < length c.args.protocols.now.items = omega (arith, c.requires.within, c.if-at-len.false, c.len.ensures, c.args.protocols.now.ok.0) in
-    (rw length-set (omega (arith, within, c.decreases)), (rw length-set c.requires.few, (rw length-set (omega (arith, within)), rest_may _ _ _ _ _ within c.index_mut.ensures.value c.requires.may)))
+    (rw length-set (omega (arith, within)), (lent, (rw length-set c.requires.few, (rw length-set (omega (arith, within)), rest_may _ _ _ _ _ within c.index_mut.ensures.value c.requires.may))))
 
 pub returns-in-Ok-clause-opened : goal.returns-in-Ok-clause-opened
 returns-in-Ok-clause-opened g t c =
