@@ -1,5 +1,5 @@
 -- While a stack is Halted its drivers keep nothing, so they may be set up.
-use Rattle.std.proofs.Common.{◌≡◌, ℕ, ◌<◌, List, [], ◌∷◌, filter, map, length, slice_index_or, All, refl, sym, ap, ◌∙◌, subst, arith}
+use Rattle.std.proofs.Common.{◌≡◌, ℕ, List, [], ◌∷◌, filter, map, length, All, refl, sym, ap, ◌∙◌, subst, arith}
 use Rattle.std.proofs.lemmas.List.{length-map}
 use Rattle.std.proofs.lemmas.List.Elements.{All-from_get_or}
 use Rattle.ndis_base.specs.declared.ModuleId.{ModuleId}
@@ -7,7 +7,6 @@ use Rattle.ndis_base.specs.declared.ModuleId.TheVariants.{Miniport, Binding}
 use Rattle.ndis_base.specs.declared.Phase.TheVariants as phase
 use Rattle.buffer_pools.specs.Views.{ListView}
 use Rattle.stack_rules.specs.declared.LiveList.{LiveList}
-use Rattle.stack_rules.specs.declared.Thing.{Thing}
 use Rattle.stack_rules.specs.Net.{Net, seen, lists}
 use Rattle.stack_rules.specs.Places.{is_kept_by, kept_lists}
 use Rattle.work_laws.proofs.Halted.{HasNothing, nothing_while_halted}

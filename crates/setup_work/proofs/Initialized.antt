@@ -1,7 +1,7 @@
 -- A stack is initialised: the book stands again with its drivers set up, and the rows are those of the rules.
-use Rattle.std.proofs.Common.{◌≡◌, ℕ, ◌+◌, ◌*◌, ◌≤◌, ◌<◌, Bool, true, false, List, [], ◌∷◌, ◌++◌, Some, None, length, map, slice_index_or, refl, sym, ap, ◌∙◌, subst, arith, append_assoc, All}
-use Rattle.std.proofs.lemmas.Bool.{cond-true, cond-false}
-use Rattle.std.proofs.lemmas.List.{length-map, length-append}
+use Rattle.std.proofs.Common.{◌≡◌, ℕ, ◌+◌, ◌*◌, ◌≤◌, ◌<◌, Bool, true, false, List, [], ◌∷◌, ◌++◌, Some, length, slice_index_or, refl, sym, ap, ◌∙◌, subst, arith, append_assoc, All}
+use Rattle.std.proofs.lemmas.Bool.{cond-false}
+use Rattle.std.proofs.lemmas.List.{length-map}
 use Rattle.std.proofs.lemmas.List.Elements.{All-weaker}
 use Rattle.ndis_base.specs.declared.ConfigNo.{ConfigNo}
 use Rattle.ndis_base.specs.declared.ModuleId.{ModuleId}
@@ -24,18 +24,18 @@ use Rattle.stack_rules.specs.declared.Choice.{Choice}
 use Rattle.stack_rules.specs.Heads.{kind_of_binding}
 use Rattle.stack_rules.specs.Net.{Net, after, after_rows, attached}
 use Rattle.stack_rules.specs.Outcome.{Outcome, config_no, refused}
-use Rattle.stack_rules.specs.Pauses.{binding_ids, initialize_outcome, initialize_rows, state_row}
+use Rattle.stack_rules.specs.Pauses.{initialize_outcome, initialize_rows, state_row}
 use Rattle.stack_rules.specs.Tests.{phase_is_halted}
 use Rattle.state_laws.specs.Laws.{IsThere}
 use Rattle.agenda_items.specs.declared.Carried.{Carried}
-use Rattle.driver_views.specs.States.{MiniportState, ProtocolState}
+use Rattle.driver_views.specs.States.{ProtocolState}
 use Rattle.hand_lemmas.specs.Hands.{IsSame}
 use Rattle.hand_lemmas.proofs.Rows.{agrees_same, configured}
 use Rattle.driver_tray.specs.Tray.{TrayView, written}
 use Rattle.driver_tray.specs.Tray as tray
 use Rattle.book_lemmas.specs.Did.{Did}
 use Rattle.book_lemmas.specs.Leaves.{ArePhases, IsSeatedStill, WasAttached}
-use Rattle.book_lemmas.specs.Stands.{Stands, AllSized, IsSized, IsPoolOf, IsSeated, DriversFit}
+use Rattle.book_lemmas.specs.Stands.{Stands, IsSized, IsPoolOf, IsSeated, DriversFit}
 use Rattle.book_lemmas.specs.Views.{BookView, HeldView, IsOnShelf, hands_of, held_pool, kept_of, seat_of}
 use Rattle.book_lemmas.proofs.Called.{miniport_leaves}
 use Rattle.book_lemmas.proofs.Goes.{after_rows-append, used_then}

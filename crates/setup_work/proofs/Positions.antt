@@ -1,7 +1,7 @@
 -- The positions of a stack from the bottom: which modules are at each, and their drivers.
-use Rattle.std.proofs.Common.{◌≡◌, ℕ, zero, suc, ◌+◌, ◌-◌, ◌*◌, ◌<◌, ◌≤◌, ◌==◌, ◌||◌, ◌^◌, Bool, true, false, List, [], ◌∷◌, ◌++◌, Some, None, length, get_or, map, reverse, refl, sym, ap, ◌∙◌, subst, arith, add-one}
+use Rattle.std.proofs.Common.{◌≡◌, ℕ, zero, suc, ◌+◌, ◌-◌, ◌*◌, ◌<◌, ◌≤◌, ◌==◌, ◌||◌, ◌^◌, Bool, true, false, List, [], ◌∷◌, ◌++◌, Some, None, length, get_or, reverse, refl, sym, ap, ◌∙◌, arith}
 use Rattle.std.proofs.lemmas.Bool.Decides.{nat_tests}
-use Rattle.std.proofs.lemmas.List.{get_or-reverse, length-map}
+use Rattle.std.proofs.lemmas.List.{get_or-reverse}
 use Rattle.ndis_base.specs.declared.ModuleId.{ModuleId}
 use Rattle.ndis_base.specs.declared.ModuleId.TheVariants.{Miniport, Filter}
 use Rattle.ndis_base.specs.declared.ModuleState.TheVariants as state
@@ -9,7 +9,7 @@ use Rattle.ndis_base.specs.declared.Phase.{Phase}
 use Rattle.ndis_base.specs.declared.Phase.TheVariants as phase
 use Rattle.journal_types.specs.declared.Row.{Row}
 use Rattle.stack_rules.specs.Net.{Net, Modules}
-use Rattle.stack_rules.specs.Pauses.{binding_ids, floors, is_top, one, running_floors}
+use Rattle.stack_rules.specs.Pauses.{floors, is_top, one, running_floors}
 use Rattle.stack_rules.specs.Rewires.{is_in}
 use Rattle.state_laws.specs.Shape.{AllBelow}
 use Rattle.state_laws.proofs.Floors.{length-floors, low_filter, low_miniport}

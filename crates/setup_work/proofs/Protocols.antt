@@ -1,5 +1,5 @@
 -- Protocols of a list, as contracts see them: they are opened one after the other, and closed again.
-use Rattle.std.proofs.Common.{◌≡◌, false, ℕ, zero, suc, ◌+◌, ◌<◌, ◌≤◌, List, [], ◌∷◌, ◌++◌, length, map, take, drop, slice_index_or, slice_set, All, refl, sym, ◌∙◌, ap, subst, arith, add-one, length-set, get_or-set_same}
+use Rattle.std.proofs.Common.{◌≡◌, false, ℕ, zero, suc, ◌+◌, ◌<◌, List, [], ◌∷◌, ◌++◌, length, map, take, drop, slice_index_or, slice_set, All, refl, sym, ◌∙◌, ap, subst, arith, add-one, length-set, get_or-set_same}
 use Rattle.std.specs.Prelude.{Result, Ok, Err, OnOk, OnErr}
 use Rattle.std.proofs.lemmas.List.{map-set, length-map, get_or-map, set-set, drop_more, drop-set-lt}
 use Rattle.std.proofs.Math.Seq.{map-set_same}

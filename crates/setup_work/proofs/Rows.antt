@@ -1,5 +1,5 @@
 -- Rows of phases of modules that take two states, and the row of a configuration without filters: nobody is called.
-use Rattle.std.proofs.Common.{◌≡◌, ℕ, ◌*◌, ◌+◌, List, [], ◌∷◌, ◌++◌, length, flat_map, refl, sym, ap, ◌∙◌, subst, arith, append_assoc, append-nil}
+use Rattle.std.proofs.Common.{◌≡◌, ◌*◌, ◌+◌, List, [], ◌∷◌, ◌++◌, length, refl, sym, ap, ◌∙◌, subst, arith, append_assoc, append-nil}
 use Rattle.std.proofs.Math.Nat.{suc-mul}
 use Rattle.ndis_base.specs.declared.ConfigNo.{ConfigNo}
 use Rattle.ndis_base.specs.declared.ModuleId.{ModuleId}

@@ -1,5 +1,5 @@
-use Rattle.std.proofs.Common.{◌<◌, arith, sym, ◌∙◌, length, length-set}
-use Rattle.setup_work.proofs.Protocols.{first_may, rest_may, opened_at, still_empty, closed_again, unseen_at, same_count, now_err}
+use Rattle.std.proofs.Common.{◌<◌, arith, length, length-set}
+use Rattle.setup_work.proofs.Protocols.{first_may, rest_may, opened_at, still_empty, closed_again, unseen_at, now_err}
 use Rattle.setup_work.proofs.drivers.+open_from.Goals as goal
 
 pub open_binding-requires : goal.open_binding-requires

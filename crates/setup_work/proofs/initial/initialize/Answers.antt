@@ -1,5 +1,4 @@
 use Rattle.std.proofs.Common.{◌≡◌, arith, length, map, refl}
-use Rattle.std.proofs.lemmas.List.{length-map}
 use Rattle.book_lemmas.specs.Views.{BookView, HeldView}
 use Rattle.book_parts.specs.Parts.{view_of}
 use Rattle.book_parts.proofs.Events.{begins_roomed}
