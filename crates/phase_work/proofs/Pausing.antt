@@ -28,10 +28,10 @@ use Rattle.phase_work.specs.Written.{each_written, bindings_from, begin_rows}
 use Rattle.phase_work.proofs.Written.{ends_moved, has_written}
 
 -- what no driver is asked
-any_choice : Choice
+pub any_choice : Choice
 any_choice = record { keeps = false; refuses = false; shelf_empty = false }
 
-all_bindings : (b : ℕ) (ss : List ModuleState) → bindings_from b (length ss) ≡ binding_ids b ss
+pub all_bindings : (b : ℕ) (ss : List ModuleState) → bindings_from b (length ss) ≡ binding_ids b ss
 all_bindings b [] = refl
 all_bindings b (s ∷ ss) = ap (λ ms. Binding b ∷ ms) (all_bindings (b + 1) ss)
 
