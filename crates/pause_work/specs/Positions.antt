@@ -39,10 +39,10 @@ pub record IsAt (ms : Modules) (i : ℕ) (f : Floor) : Type 0 where
   pub are : modules_of f ≡ slice_index_or (floors ms) i []
   pub numbered : IsNumbered f
 
--- so is this, where there is one; and else it is the number of all positions
-abbrev pub IsNext : Modules → ℕ → Option Floor → Type 0
-IsNext ms i None = length (floors ms) ≤ i
-IsNext ms i (Some f) = IsAt ms i f
+-- what is found at a number: the position, or nothing from the number of all positions on
+abbrev pub IsFound : Modules → ℕ → Option Floor → Type 0
+IsFound ms i None = length (floors ms) ≤ i
+IsFound ms i (Some f) = IsAt ms i f
 
 abbrev pub next_width : Option Floor → ℕ
 next_width None = 1

@@ -7,13 +7,25 @@ use crate::floor::Floor;
 use book_parts::BookParts;
 use driver_calls::{FilterCalls, MiniportCalls, ProtocolCalls};
 
-/// Tells each protocol (WDK, "ProtocolNetPnPEvent" with NetEventPause).
-fn pause_protocols<P: ProtocolCalls>(protocols: &mut [P])
+fn pause_protocol<P: ProtocolCalls>(protocol: &mut P)
+    ensures { P.state protocol.new ≡ P.state protocol.old }
+{
+    protocol.pause();
+}
+
+/// Tells the protocol at a place (WDK, "ProtocolNetPnPEvent" with NetEventPause).
+fn pause_binding<P: ProtocolCalls>(protocols: &mut [P], place: usize)
+    requires { place < length protocols.old }
     ensures { map P.state protocols.new ≡ map P.state protocols.old }
 {
-    if let [protocol, others @ ..] = protocols {
-        protocol.pause();
-        pause_protocols(others);
+    pause_protocol(&mut protocols[place]);
+}
+
+fn pause_bindings<P: ProtocolCalls>(protocols: &mut [P])
+    ensures { map P.state protocols.new ≡ map P.state protocols.old }
+{
+    for place in 0..protocols.len() {
+        pause_binding(protocols, place);
     }
 }
 
@@ -40,7 +52,7 @@ pub fn pause_floor<M: MiniportCalls, P: ProtocolCalls, F: FilterCalls>(
     ensures tray { book.new.tray ≡ book.old.tray }
 {
     match floor {
-        Floor::Bindings(_many) => pause_protocols(book.protocols.as_mut_slice()),
+        Floor::Bindings(_many) => pause_bindings(book.protocols.as_mut_slice()),
         Floor::Filter(f) => {
             if let Some(place) = place_of(book.seats.as_slice(), f) {
                 if place < book.filters.len() {

@@ -1,8 +1,7 @@
 //! The positions of a stack.
-ghost use Rattle.std.specs.Prelude.{◌≡◌, ◌≤◌, ◌+◌, ◌^◌, length, IfSome, IfNone};
-ghost use Rattle.stack_rules.specs.Pauses.{floors};
+ghost use Rattle.std.specs.Prelude.{◌≡◌, ◌≤◌, ◌+◌, ◌^◌, length};
 ghost use Rattle.state_laws.specs.Shape.{AllBelow};
-ghost use Rattle.pause_work.specs.Positions.{IsAt, width};
+ghost use Rattle.pause_work.specs.Positions.{IsFound, width};
 
 use driver_tray::Tray;
 
@@ -30,8 +29,7 @@ pub fn width(floor: Floor) -> usize
 pub fn floor_at(tray: &Tray, bindings: u32, position: usize) -> Option<Floor>
     requires bindings { bindings ≡ length tray.now.net.modules.bindings }
     requires below { AllBelow tray.now.net.next.filter tray.now.net.modules.order }
-    ensures some { IfSome result (λ floor. IsAt tray.now.net.modules position floor) }
-    ensures none { IfNone result (length (floors tray.now.net.modules) ≤ position) }
+    ensures { IsFound tray.now.net.modules position result }
 {
     let order = tray.order();
     let _next = tray.next_filter();

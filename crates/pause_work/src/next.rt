@@ -91,6 +91,7 @@ fn pause_front<M: MiniportCalls, P: ProtocolCalls, F: FilterCalls>(
     ensures turn { OnOk result (CanEnd (view_of M.state P.state F.state book.new)) }
     ensures memory { OnErr result (IsUnmoved (view_of M.state P.state F.state book.old) (view_of M.state P.state F.state book.new)) }
 {
+    let _positions = book.tray.floors_count();
     let position = book.tray.first_unpaused();
     let Some(floor) = floor_at(&book.tray, bindings, position) else {
         unreachable!()
