@@ -1,6 +1,5 @@
--- What is read at a place of a list.
+-- What is at each position, and a list of which an element changed, but not what it shows.
 use Rattle.std.proofs.Common.{◌≡◌, ℕ, zero, suc, ◌+◌, ◌-◌, ◌^◌, ◌<◌, ◌≤◌, List, [], ◌∷◌, ◌++◌, length, map, slice_index_or, slice_set, refl, sym, ap, ◌∙◌, subst, arith}
-use Rattle.std.proofs.lemmas.List.{get_or-map, get_or_past, length-map}
 use Rattle.std.proofs.Math.Seq.{map-set_same}
 use Rattle.ndis_base.specs.declared.ModuleId.{ModuleId}
 use Rattle.ndis_base.specs.declared.ModuleId.TheVariants.{Miniport, Filter, Binding}
@@ -10,29 +9,14 @@ use Rattle.stack_rules.specs.Pauses.{binding_ids, one, floors}
 use Rattle.state_laws.specs.Shape.{AllBelow}
 use Rattle.state_laws.proofs.Floors.{length-floors}
 use Rattle.phase_work.specs.Written.{bindings_from}
+use Rattle.phase_work.proofs.Pausing.{all_bindings}
 use Rattle.pause_work.specs.declared.floor.Floor.{Floor}
 use Rattle.pause_work.specs.declared.floor.Floor.TheVariants as floor
 use Rattle.pause_work.specs.Positions.{IsAt}
 
--- an element, and what it shows
-pub shown_at : {X Y : Type 0} (f : X → Y) (xs : List X) (i : ℕ) (old : X) (d : Y) → i < length xs → old ≡ slice_index_or xs i old → slice_index_or (map f xs) i d ≡ f old
-shown_at f xs i old d within e = get_or-map f xs i old d within ∙ ap f (sym e)
-
-pub read_at : {X : Type 0} (xs : List X) (i : ℕ) (old d : X) → i < length xs → old ≡ slice_index_or xs i old → slice_index_or xs i d ≡ old
-read_at xs i old d within e = sym (get_or-map (λ x. x) xs i d d within) ∙ get_or-map (λ x. x) xs i old d within ∙ sym e
-
 -- an element was changed, but not what it shows
 pub same_shown : {X Y : Type 0} (f : X → Y) (xs : List X) (i : ℕ) (old y : X) → old ≡ slice_index_or xs i old → f y ≡ f old → map f (slice_set xs i y) ≡ map f xs
 same_shown f xs i old y e same = map-set_same f xs i y old (same ∙ ap f e)
-
--- none
-pub shown_past : {X Y : Type 0} (f : X → Y) (xs : List X) (i : ℕ) (d : Y) → length xs ≤ i → slice_index_or (map f xs) i d ≡ d
-shown_past f xs i d past = get_or_past (map f xs) i d (omega (arith, length-map xs f, past))
-
--- all bindings
-all_bindings : (b : ℕ) (ss : List ModuleState) → bindings_from b (length ss) ≡ binding_ids b ss
-all_bindings b [] = refl
-all_bindings b (s ∷ ss) = ap (λ ms. Binding b ∷ ms) (all_bindings (b + 1) ss)
 
 -- the positions below the bindings
 abbrev low : List ℕ → List (List ModuleId)
@@ -46,10 +30,6 @@ low_filter (f ∷ fs) zero within = refl
 low_filter (f ∷ fs) (suc j) within =
     let longer : length (f ∷ fs) ≡ suc (length fs) = refl in
     low_filter fs j (omega (arith, within, longer))
-
-low_miniport : (order : List ℕ) → one Miniport ≡ slice_index_or (low order) (length order) []
-low_miniport [] = refl
-low_miniport (f ∷ fs) = low_miniport fs
 
 number_below : (n : ℕ) (order : List ℕ) (j : ℕ) → AllBelow n order → j < length order → slice_index_or order j 0 < n
 number_below n [] j below within =
@@ -80,12 +60,3 @@ at_filter ms zero f next below small some within is = absurd (some refl)
 at_filter ms (suc j) f next below small some within is =
     let one_less : suc j - 1 ≡ j = omega arith in
     at_low ms j f next below small (omega (arith, within)) (is ∙ ap (λ k. slice_index_or ms.order k 0) one_less)
-
-pub at_miniport : (ms : Modules) (i : ℕ) → i ≡ length ms.order + 1 → IsAt ms i floor.Miniport
-at_miniport ms i is =
-    let after : length ms.order + 1 ≡ suc (length ms.order) = omega arith in
-    record {
-      within = omega (arith, length-floors ms, is);
-      are = low_miniport ms.order ∙ ap (λ k. slice_index_or (floors ms) k []) (sym (is ∙ after));
-      numbered = record {};
-    }

@@ -1,6 +1,5 @@
 -- Sums over the modules of a position, and counts of what is on its way.
-use Rattle.std.proofs.Common.{◌≡◌, ℕ, zero, suc, ◌+◌, Bool, List, [], ◌∷◌, Option, None, Some, map, count_by, sum_by, refl, ap, ◌∙◌, arith}
-use Rattle.std.specs.Prelude.{IfSome}
+use Rattle.std.proofs.Common.{◌≡◌, ℕ, zero, suc, ◌+◌, Bool, List, [], ◌∷◌, map, count_by, sum_by, refl, ap, arith}
 use Rattle.std.proofs.lemmas.List.Sums.{sum_by-cons}
 use Rattle.ndis_base.specs.declared.ModuleId.{ModuleId}
 use Rattle.ndis_base.specs.declared.ModuleId.TheVariants.{Binding}
@@ -14,7 +13,7 @@ sum_same f g (x ∷ xs) e =
     let right = sum_by-cons g x xs in
     omega (arith, left, right, e x, sum_same f g xs e)
 
-pub sum_one : {X : Type 0} (f : X → ℕ) (x : X) → sum_by f (x ∷ []) ≡ f x
+sum_one : {X : Type 0} (f : X → ℕ) (x : X) → sum_by f (x ∷ []) ≡ f x
 sum_one f x =
     let whole = sum_by-cons f x [] in
     omega (arith, whole)
@@ -52,8 +51,3 @@ count_map f p (x ∷ xs) =
     let left = count_by-cons (λ y. p (f y)) x xs in
     let right = count_by-cons p (f x) (map f xs) in
     omega (arith, left, right, count_map f p xs)
-
--- the same number under another name
-pub on_some : (r : Option ℕ) (n m : ℕ) → n ≡ m → IfSome r (λ c. c ≡ n) → IfSome r (λ c. c ≡ m)
-on_some None n m e h = h
-on_some (Some c) n m e h = h ∙ e

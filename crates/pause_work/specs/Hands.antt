@@ -1,5 +1,5 @@
 -- What of a module and of a position is in hand.
-use Rattle.std.specs.Prelude.{ℕ, ◌+◌, length, count_by, sum_by}
+use Rattle.std.specs.Prelude.{◌≡◌, ℕ, ◌+◌, Option, IfSome, length, count_by, sum_by}
 use Rattle.ndis_base.specs.declared.ModuleId.{ModuleId}
 use Rattle.buffer_pools.specs.Views.{live_count}
 use Rattle.driver_tray.specs.Away.{counts_there}
@@ -17,3 +17,7 @@ floor_count held f = sum_by (hand_count held) (modules_of f)
 
 abbrev pub all_count : BookView → ℕ → Floor → ℕ
 all_count v i f = floor_count v.held f + count_by (counts_there v.tray.net.modules i) v.tray.queue
+
+-- it is so many, where 64 bits hold the count
+abbrev pub Counts : Option ℕ → ℕ → Type 0
+Counts r n = IfSome r (λ count. count ≡ n)

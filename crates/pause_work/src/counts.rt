@@ -1,17 +1,15 @@
 //! How much a position has in hand.
-ghost use Rattle.std.specs.Prelude.{◌≡◌, ◌+◌, length, count_by, sum_by, slice_index_or, map, IfSome};
+ghost use Rattle.std.specs.Prelude.{◌≡◌, ◌+◌, length, slice_index_or, map};
 ghost use Rattle.buffer_pools.specs.Views.{live_count};
-ghost use Rattle.driver_tray.specs.Away.{counts_there};
 ghost use Rattle.book_lemmas.specs.Views.{filter_at, no_pool, no_protocol, pool_at, seat_of};
 ghost use Rattle.book_parts.specs.Parts.{held_of, view_of};
-ghost use Rattle.phase_work.specs.Written.{bindings_from};
-ghost use Rattle.pause_work.specs.Hands.{hand_count, floor_count, all_count};
+ghost use Rattle.pause_work.specs.declared.floor.Floor.TheVariants as a_floor;
+ghost use Rattle.pause_work.specs.Hands.{Counts, hand_count, floor_count, all_count};
 
 use crate::floor::Floor;
 use book_parts::BookParts;
 use buffer_pools::ListPool;
 use driver_calls::{FilterCalls, MiniportCalls, ProtocolCalls};
-use driver_tray::Tray;
 use ndis_base::ModuleId;
 
 /// The place of a filter's driver.
@@ -31,7 +29,7 @@ pub fn place_of(seats: &[(u64, usize)], f: u64) -> Option<usize>
 }
 
 fn sum_of(a: usize, b: usize) -> Option<usize>
-    ensures { IfSome result (λ sum. sum ≡ a + b) }
+    ensures { Counts result (a + b) }
 {
     a.checked_add(b)
 }
@@ -93,7 +91,7 @@ fn hand_count<M: MiniportCalls, P: ProtocolCalls, F: FilterCalls>(
     book: &BookParts<M, P, F>,
     id: ModuleId,
 ) -> Option<usize>
-    ensures { IfSome result (λ count. count ≡ hand_count (held_of M.state P.state F.state book.now) id) }
+    ensures { Counts result (hand_count (held_of M.state P.state F.state book.now) id) }
 {
     match id {
         ModuleId::Miniport => sum_of(book.miniport_pool.live(), book.miniport.held()),
@@ -114,7 +112,7 @@ fn bindings_count<M: MiniportCalls, P: ProtocolCalls, F: FilterCalls>(
     book: &BookParts<M, P, F>,
     many: u32,
 ) -> Option<usize>
-    ensures { IfSome result (λ count. count ≡ sum_by (hand_count (held_of M.state P.state F.state book.now)) (bindings_from 0 many)) }
+    ensures { Counts result (floor_count (held_of M.state P.state F.state book.now) (a_floor.Bindings many)) }
 {
     let mut total = 0usize;
     for binding in 0..many {
@@ -129,20 +127,13 @@ fn floor_count<M: MiniportCalls, P: ProtocolCalls, F: FilterCalls>(
     book: &BookParts<M, P, F>,
     floor: Floor,
 ) -> Option<usize>
-    ensures { IfSome result (λ count. count ≡ floor_count (held_of M.state P.state F.state book.now) floor) }
+    ensures { Counts result (floor_count (held_of M.state P.state F.state book.now) floor) }
 {
     match floor {
         Floor::Bindings(many) => bindings_count(book, many),
         Floor::Filter(f) => hand_count(book, ModuleId::Filter(f)),
         Floor::Miniport => hand_count(book, ModuleId::Miniport),
     }
-}
-
-/// How many lists on their way are at a position that isn't their owner's.
-fn away_count(tray: &Tray, position: usize) -> usize
-    ensures { result ≡ count_by (counts_there tray.now.net.modules position) tray.now.queue }
-{
-    tray.away_at(position)
 }
 
 /// How many lists a position has in hand: what its modules own and keep, and what else on its way counts there. None
@@ -152,8 +143,8 @@ pub fn all_count<M: MiniportCalls, P: ProtocolCalls, F: FilterCalls>(
     floor: Floor,
     position: usize,
 ) -> Option<usize>
-    ensures { IfSome result (λ count. count ≡ all_count (view_of M.state P.state F.state book.now) position floor) }
+    ensures { Counts result (all_count (view_of M.state P.state F.state book.now) position floor) }
 {
     let count = floor_count(book, floor)?;
-    sum_of(count, away_count(&book.tray, position))
+    sum_of(count, book.tray.away_at(position))
 }

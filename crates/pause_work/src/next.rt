@@ -1,5 +1,5 @@
 //! The next position is Paused.
-ghost use Rattle.std.specs.Prelude.{◌≡◌, ◌≤◌, ◌+◌, ◌^◌, length, IfSome, IfNone, IfOk, OnOk, OnErr};
+ghost use Rattle.std.specs.Prelude.{◌≡◌, ◌≤◌, ◌+◌, ◌^◌, length, IfOk, OnOk, OnErr};
 ghost use Rattle.ndis_base.specs.declared.Phase.TheVariants as phase;
 ghost use Rattle.journal_types.specs.declared.Event.TheVariants as event;
 ghost use Rattle.flat_journal.specs.Shown.{reply_of};
@@ -15,22 +15,10 @@ use crate::floor::{Floor, floor_at, width};
 use crate::writes::write_paused;
 use book_parts::BookParts;
 use driver_calls::{FilterCalls, MiniportCalls, ProtocolCalls};
-use driver_tray::Tray;
 use flat_journal::{FlatReply, Room};
 use journal_types::Refusal;
 use ndis_base::{OutOfMemory, Phase};
-
-/// How many bindings the stack has; None where they are 2 to the power of 32 or more, which no number of a binding
-/// tells apart.
-fn binding_count(tray: &Tray) -> Option<u32>
-    ensures { IfSome result (λ count. count ≡ length tray.now.net.modules.bindings) }
-{
-    let count = tray.modules().bindings().len();
-    if count > u32::MAX as usize {
-        return None;
-    }
-    Some(count as u32)
-}
+use phase_work::pauses::binding_count;
 
 fn next_width(next: Option<Floor>) -> usize
     ensures many { result ≡ next_width next }

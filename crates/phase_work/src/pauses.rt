@@ -16,7 +16,7 @@ use ndis_base::{OutOfMemory, Phase};
 
 /// How many bindings the stack has; None where they are 2 to the power of 32 or more, which no number of a binding
 /// tells apart.
-fn binding_count(tray: &Tray) -> Option<u32>
+pub fn binding_count(tray: &Tray) -> Option<u32>
     ensures all { IfSome result (λ count. count ≡ length tray.now.net.modules.bindings) }
     ensures many { IfNone result (2 ^ 32 ≤ length tray.now.net.modules.bindings) }
 {
