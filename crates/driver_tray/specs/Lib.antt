@@ -1,3 +1,4 @@
+pub mod Away
 pub mod Tray
 pub mod Inside
 pub mod Waits

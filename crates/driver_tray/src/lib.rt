@@ -1,6 +1,7 @@
 //! The tray into which a driver writes its calls, and which the stack works off afterwards.
 #![tactic(auto)]
 
+pub mod away;
 pub mod holding;
 pub mod lists;
 pub mod on_way;

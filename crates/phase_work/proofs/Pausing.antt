@@ -31,6 +31,7 @@ use Rattle.phase_work.proofs.Written.{ends_moved, has_written}
 pub any_choice : Choice
 any_choice = record { keeps = false; refuses = false; shelf_empty = false }
 
+-- all bindings, by how many they are
 pub all_bindings : (b : ℕ) (ss : List ModuleState) → bindings_from b (length ss) ≡ binding_ids b ss
 all_bindings b [] = refl
 all_bindings b (s ∷ ss) = ap (λ ms. Binding b ∷ ms) (all_bindings (b + 1) ss)
