@@ -1,5 +1,5 @@
 -- What a position has in hand is what the state says that it has.
-use Rattle.std.proofs.Common.{◌≡◌, ℕ, ◌+◌, Bool, false, List, [], length, map, count_by, sum_by, refl, sym, ap, ◌∙◌, arith}
+use Rattle.std.proofs.Common.{◌≡◌, ℕ, Bool, false, List, [], length, map, count_by, sum_by, refl, sym, ap, ◌∙◌, arith}
 use Rattle.std.proofs.lemmas.List.{length-map}
 use Rattle.ndis_base.specs.declared.ModuleId.{ModuleId}
 use Rattle.journal_types.specs.declared.PassWay.TheVariants as way

@@ -1,16 +1,14 @@
 -- What is at each position, and a list of which an element changed, but not what it shows.
-use Rattle.std.proofs.Common.{◌≡◌, ℕ, zero, suc, ◌+◌, ◌-◌, ◌^◌, ◌<◌, ◌≤◌, List, [], ◌∷◌, ◌++◌, length, map, slice_index_or, slice_set, refl, sym, ap, ◌∙◌, subst, arith}
+use Rattle.std.proofs.Common.{◌≡◌, ℕ, zero, suc, ◌-◌, ◌^◌, ◌<◌, ◌≤◌, List, [], ◌∷◌, ◌++◌, length, map, slice_index_or, slice_set, refl, ap, ◌∙◌, arith}
 use Rattle.std.proofs.Math.Seq.{map-set_same}
 use Rattle.ndis_base.specs.declared.ModuleId.{ModuleId}
-use Rattle.ndis_base.specs.declared.ModuleId.TheVariants.{Miniport, Filter, Binding}
-use Rattle.ndis_base.specs.declared.ModuleState.{ModuleState}
+use Rattle.ndis_base.specs.declared.ModuleId.TheVariants.{Miniport, Filter}
 use Rattle.stack_rules.specs.Net.{Modules}
-use Rattle.stack_rules.specs.Pauses.{binding_ids, one, floors}
+use Rattle.stack_rules.specs.Pauses.{one}
 use Rattle.state_laws.specs.Shape.{AllBelow}
 use Rattle.state_laws.proofs.Floors.{length-floors}
 use Rattle.phase_work.specs.Written.{bindings_from}
 use Rattle.phase_work.proofs.Pausing.{all_bindings}
-use Rattle.pause_work.specs.declared.floor.Floor.{Floor}
 use Rattle.pause_work.specs.declared.floor.Floor.TheVariants as floor
 use Rattle.pause_work.specs.Positions.{IsAt}
 

@@ -11,10 +11,11 @@ use Rattle.pause_work.specs.Positions.{modules_of}
 abbrev pub hand_count : HeldView → ModuleId → ℕ
 hand_count held m = live_count (held_pool held m) + length (kept_of held m)
 
--- those of a position's modules, and what else on its way counts there
+-- those of a position's modules
 abbrev pub floor_count : HeldView → Floor → ℕ
 floor_count held f = sum_by (hand_count held) (modules_of f)
 
+-- and with them what else on its way counts there
 abbrev pub all_count : BookView → ℕ → Floor → ℕ
 all_count v i f = floor_count v.held f + count_by (counts_there v.tray.net.modules i) v.tray.queue
 

@@ -1,6 +1,6 @@
 //! The modules of a position are told to pause.
 ghost use Rattle.std.specs.Prelude.{◌≡◌, ◌<◌, length, map};
-ghost use Rattle.book_parts.specs.Parts.{held_of, view_of};
+ghost use Rattle.book_parts.specs.Parts.{held_of};
 
 use crate::counts::place_of;
 use crate::floor::Floor;

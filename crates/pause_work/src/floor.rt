@@ -1,5 +1,5 @@
 //! The positions of a stack.
-ghost use Rattle.std.specs.Prelude.{◌≡◌, ◌≤◌, ◌+◌, ◌^◌, length};
+ghost use Rattle.std.specs.Prelude.{◌≡◌, ◌≤◌, ◌^◌, length};
 ghost use Rattle.state_laws.specs.Shape.{AllBelow};
 ghost use Rattle.pause_work.specs.Positions.{IsFound, width};
 
