@@ -1,0 +1,20 @@
+use Rattle.std.proofs.Common.{rules, refl, ◌∙◌}
+use Rattle.book_runs.proofs.Added.{moves_more, none_added, pumps_end}
+use Rattle.book_runs.proofs.asking.pump_all.Goals as goal
+
+pub loop-init : goal.loop-init
+loop-init g c = record { between = c.requires.between; phase = refl; added = none_added _ _ tt }
+
+pub loop-preserved : goal.loop-preserved
+loop-preserved g c =
+    let p = c.in_ok-pump_once.ensures.pumped in
+    record {
+      between = p.between;
+      phase = p.phase_is ∙ c.loop.invariant.phase;
+      added = moves_more _ _ (search rules) c.loop.invariant.added p.added;
+    }
+
+pub returns-clause-pumped : goal.returns-clause-pumped
+returns-clause-pumped g c =
+    let p = c.in_ok-pump_once.ensures.pumped in
+    record { between = p.between; phase_is = p.phase_is ∙ c.loop.invariant.phase; added = pumps_end _ _ (search rules) c.loop.invariant.added p.added }

@@ -1,0 +1,6 @@
+//! A pump works the first thing on its way.
+#![tactic(auto)]
+
+pub mod pumps;
+
+pub use crate::pumps::{drain_away, pump};
