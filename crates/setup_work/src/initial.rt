@@ -60,12 +60,7 @@ pub fn initialize<M: MiniportCalls, P: ProtocolCalls, F: FilterCalls>(
         0,
     )?;
     match book.tray.phase() {
-        Phase::Halted => match set_up(
-            &mut book.miniport,
-            &mut book.protocols,
-            &book.tray,
-            alloc,
-        ) {
+        Phase::Halted => match set_up(&mut book.miniport, &mut book.protocols, &book.tray, alloc) {
             Ok(()) => {
                 write_up(&mut book.tray, bindings);
                 Ok(FlatReply::Ok)
