@@ -40,13 +40,13 @@ use Rattle.book_lemmas.specs.Views.{BookView, HeldView, IsOnShelf, hands_of, hel
 use Rattle.book_lemmas.proofs.Called.{miniport_leaves}
 use Rattle.book_lemmas.proofs.Goes.{after_rows-append, used_then}
 use Rattle.book_lemmas.proofs.Phases.{phases_agree, still_phases}
-use Rattle.book_parts.specs.Events.{IsBook, IsIdle, DidEvent, IsUnmoved}
-use Rattle.book_parts.proofs.Events.{Begins, Ends, begins_stands, did_event, ends_still, unmoved}
+use Rattle.book_parts.specs.Events.{IsBook, IsIdle, DidEvent}
+use Rattle.book_parts.proofs.Events.{Begins, Ends, begins_stands, did_event, ends_still}
 use Rattle.phase_work.specs.Written.{CountsNothing, each_written, bindings_from}
 use Rattle.phase_work.proofs.EachBinding.{each_append}
 use Rattle.phase_work.proofs.Pausing.{all_bindings}
 use Rattle.phase_work.proofs.Written.{HasWritten, has_written, did_nothing, ends_phases}
-use Rattle.setup_work.specs.SetUp.{opened, ported, set_up, phases_up, written_up, AreSetUp, HasRefused, AreSame}
+use Rattle.setup_work.specs.SetUp.{opened, ported, set_up, phases_up, written_up, AreSetUp, HasRefused}
 use Rattle.setup_work.proofs.Halted.{was_halted}
 use Rattle.setup_work.proofs.Positions.{bindings_count, room_after}
 use Rattle.setup_work.proofs.Protocols.{opened_field}
@@ -246,13 +246,6 @@ wrong_phase old t now k i g now_is other =
     let is : initialize_outcome old.tray.net false ≡ refused (refusal.WrongPhase old.tray.net.phase) = cond-false (phase_is_halted old.tray.net.phase) _ _ (ap phase_is_halted (sym was) ∙ not_halted now other) in
     did_event old _ [] event.Initialize (choosing false) _ k i (ends_still t k g)
     (ap (λ p. reply.Refused (refusal.WrongPhase p)) was ∙ ap (λ (o : Outcome). o.reply) (sym is)) (ap (λ (o : Outcome). o.rows) (sym is)) refl
-
--- after want of memory
-pub unmoved_same : (old : BookView) (b : TrayView) (held : HeldView) → IsBook old → Begins old.tray b []
-    → AreSame old.held.miniport old.held.protocols held.miniport held.protocols → held ≡ record old.held { miniport = held.miniport; protocols = held.protocols } → IsUnmoved old (record { tray = b; held = held })
-unmoved_same old b held k g same is =
-    let held_is : held ≡ old.held = is ∙ ap (λ m. record old.held { miniport = m; protocols = held.protocols }) same.miniport ∙ ap (λ ps. record old.held { protocols = ps }) same.protocols in
-    subst (λ h. IsUnmoved old (record { tray = b; held = h })) (sym held_is) (unmoved b k g)
 
 -- room for a turn is left
 pub turns_left : (b t : TrayView) (n : ℕ) → 1 ≤ b.room.turns → t ≡ written_up b n → 1 ≤ t.room.turns

@@ -1,28 +1,26 @@
 -- The positions of a stack from the bottom: which modules are at each, and their drivers.
-use Rattle.std.proofs.Common.{◌≡◌, ℕ, zero, suc, ◌+◌, ◌-◌, ◌*◌, ◌<◌, ◌≤◌, ◌==◌, ◌||◌, ◌^◌, Bool, true, false, List, [], ◌∷◌, ◌++◌, Some, None, length, get_or, reverse, refl, sym, ap, ◌∙◌, arith}
+use Rattle.std.proofs.Common.{◌≡◌, ℕ, zero, suc, ◌+◌, ◌-◌, ◌*◌, ◌<◌, ◌≤◌, ◌==◌, ◌||◌, Bool, true, false, List, [], ◌∷◌, ◌++◌, length, get_or, reverse, refl, sym, ap, ◌∙◌, arith}
 use Rattle.std.proofs.lemmas.Bool.Decides.{nat_tests}
 use Rattle.std.proofs.lemmas.List.{get_or-reverse}
-use Rattle.ndis_base.specs.declared.ModuleId.{ModuleId}
-use Rattle.ndis_base.specs.declared.ModuleId.TheVariants.{Miniport, Filter}
+use Rattle.ndis_base.specs.declared.ModuleId.TheVariants.{Filter}
 use Rattle.ndis_base.specs.declared.ModuleState.TheVariants as state
 use Rattle.ndis_base.specs.declared.Phase.{Phase}
 use Rattle.ndis_base.specs.declared.Phase.TheVariants as phase
 use Rattle.journal_types.specs.declared.Row.{Row}
-use Rattle.stack_rules.specs.Net.{Net, Modules}
-use Rattle.stack_rules.specs.Pauses.{floors, is_top, one, running_floors}
+use Rattle.stack_rules.specs.Net.{Modules}
+use Rattle.stack_rules.specs.Pauses.{floors, one}
 use Rattle.stack_rules.specs.Rewires.{is_in}
 use Rattle.state_laws.specs.Shape.{AllBelow}
-use Rattle.state_laws.proofs.Floors.{length-floors, low_filter, low_miniport}
+use Rattle.state_laws.proofs.Floors.{length-floors, low_filter}
 use Rattle.state_laws.proofs.Takes.{in_at}
 use Rattle.driver_tray.specs.Tray.{TrayView}
-use Rattle.book_lemmas.specs.Views.{seat_of}
 use Rattle.phase_work.specs.Written.{bindings_from, each_written}
 use Rattle.phase_work.proofs.EachBinding.{each_append, room_left}
 use Rattle.phase_work.proofs.Pausing.{all_bindings}
 use Rattle.setup_work.specs.declared.floors.Floor.{Floor}
 use Rattle.setup_work.specs.declared.floors.Floor.TheVariants as floor
-use Rattle.setup_work.specs.Floors.{Sits, SitsOn, IsOf, IsNumbered, modules_of, floor_room, floor_rows, phase_when, step_rows, next_floor, next_rows}
-use Rattle.setup_work.proofs.Rows.{twice, twice_length}
+use Rattle.setup_work.specs.Floors.{modules_of, floor_room, floor_rows, phase_when, step_rows}
+use Rattle.setup_work.proofs.Rows.{twice_length}
 
 -- a position from the bottom is one from the top
 from_top : (ms : Modules) (i : ℕ) → i < length (floors ms) → get_or (reverse (floors ms)) i [] ≡ get_or (floors ms) (length ms.order + 1 - i) []
@@ -30,11 +28,6 @@ from_top ms i within =
     let size = length-floors ms in
     let at : length (floors ms) - 1 - i ≡ length ms.order + 1 - i = omega (arith, size) in
     get_or-reverse (floors ms) i [] within ∙ ap (λ j. get_or (floors ms) j []) at
-
-pub port_below : (ms : Modules) (i : ℕ) → i < length (floors ms) → i ≡ 0 → one Miniport ≡ get_or (reverse (floors ms)) i []
-port_below ms i within e =
-    let at : length ms.order + 1 - i ≡ suc (length ms.order) = omega (arith, e) in
-    sym (from_top ms i within ∙ ap (λ j. get_or (floors ms) j []) at ∙ low_miniport ms.order)
 
 filter_below : (ms : Modules) (i : ℕ) → i < length (floors ms) → 0 < i → i ≤ length ms.order → one (Filter (get_or ms.order (length ms.order - i) 0)) ≡ get_or (reverse (floors ms)) i []
 filter_below ms i within some there =
@@ -62,32 +55,6 @@ below f n (g ∷ gs) all there =
       | false ↦ λ e t. below f n gs all.1 t
     ] in
     cases (g == f) refl there
-
--- what holds of each filter of the order holds of the position's
-pub numbered : (order : List ℕ) (place : Floor) → ((f : ℕ) → is_in f order ≡ true → f + 1 < 2 ^ 64) → IsOf order place → IsNumbered place
-numbered order floor.Port each of_order = tt
-numbered order (floor.Middle f) each of_order = each f of_order
-numbered order (floor.Top many) each of_order = tt
-
-pub sits_on : (seats : List (ℕ × ℕ)) (drivers : ℕ) (order : List ℕ) (place : Floor) → ((f : ℕ) → is_in f order ≡ true → Sits seats drivers f) → IsOf order place → SitsOn seats drivers place
-sits_on seats drivers order floor.Port each of_order = tt
-sits_on seats drivers order (floor.Middle f) each of_order = each f of_order
-sits_on seats drivers order (floor.Top many) each of_order = tt
-
--- a filter that sits has a place
-pub seat_is : (seats : List (ℕ × ℕ)) (drivers f place : ℕ) → Sits seats drivers f → seat_of seats f ≡ Some place → place < drivers
-seat_is seats drivers f place s e =
-    let same : s.place ≡ place = some_same s.place place (sym s.seat ∙ e) in
-    omega (arith, s.within, same)
-  where
-    some_same : (a b : ℕ) → Some a ≡ Some b → a ≡ b
-    some_same a b h = cc
-
-pub has_seat : (seats : List (ℕ × ℕ)) (drivers f : ℕ) → Sits seats drivers f → seat_of seats f ≡ None → ⊥
-has_seat seats drivers f s e = none s.place (sym s.seat ∙ e)
-  where
-    none : (a : ℕ) → Some a ≡ None → ⊥
-    none a h = cc
 
 -- how many modules a position has
 pub bindings_count : (b n : ℕ) → length (bindings_from b n) ≡ n
@@ -124,10 +91,3 @@ room_for_last t a b begins place room first then =
     let few = told_count begins phase.Restarting in
     let left : floor_room place + 1 ≤ a.room.rows = room_after t a (phase_when begins phase.Restarting) (floor_room place + 1) first (omega (arith, few, room)) in
     room_after a b (floor_rows place) 1 then (omega (arith, left, rows_count place))
-
--- the rows of a step are those of the lowest position that doesn't run
-pub steps_are : (net : Net) (begins : Bool) (place : Floor) (top : Bool) → modules_of place ≡ next_floor net → top ≡ is_top net (running_floors net) → step_rows begins place top ≡ next_rows net begins
-steps_are net begins place top modules tops =
-    let told : List Row = phase_when begins phase.Restarting in
-    let rest : List ModuleId → Bool → List Row = λ ms t. told ++ (twice state.Restarting state.Running ms ++ phase_when t phase.Running) in
-    ap (λ ms. rest ms top) modules ∙ ap (rest (next_floor net)) tops

@@ -1,6 +1,6 @@
 -- Protocols of a list, as contracts see them: they are opened one after the other, and closed again.
 use Rattle.std.proofs.Common.{◌≡◌, false, ℕ, zero, suc, ◌+◌, ◌<◌, List, [], ◌∷◌, ◌++◌, length, map, take, drop, slice_index_or, slice_set, All, refl, sym, ◌∙◌, ap, subst, arith, add-one, length-set, get_or-set_same}
-use Rattle.std.specs.Prelude.{Result, Ok, Err, OnOk, OnErr}
+use Rattle.std.specs.Prelude.{Result, Ok, Err, OnErr}
 use Rattle.std.proofs.lemmas.List.{map-set, length-map, get_or-map, set-set, drop_more, drop-set-lt}
 use Rattle.std.proofs.Math.Seq.{map-set_same}
 use Rattle.driver_views.specs.States.{ProtocolState}
@@ -73,14 +73,6 @@ closed_again f xs ys i x y z w h e e' may up same down =
     let back : f w ≡ f x = down ∙ ap closed (still_there f xs ys i x y z h e' up same) ∙ close_again (f x) may.is_open in
     map-set f ys i w ∙ ap (λ ss. slice_set ss i (f w)) (same ∙ map-set f xs i y) ∙ set-set (map f xs) i (f y) (f w)
     ∙ sym (map-set f xs i w) ∙ unseen_at f xs i x w e back
-
-pub on_ok : {A E : Type 0} (r : Result A E) (P Q : Type 0) → (P → Q) → OnOk r P → OnOk r Q
-on_ok (Ok a) P Q f p = f p
-on_ok (Err e) P Q f p = p
-
-pub on_err : {A E : Type 0} (r : Result A E) (P Q : Type 0) → (P → Q) → OnErr r P → OnErr r Q
-on_err (Ok a) P Q f p = p
-on_err (Err e) P Q f p = f p
 
 pub now_err : {A E : Type 0} (r : Result A E) (P : Type 0) → P → OnErr r P
 now_err (Ok a) P p = tt

@@ -1,5 +1,5 @@
 -- A step of a restart: some position is left, its drivers are there, and its rows are those of the rules.
-use Rattle.std.proofs.Common.{◌≡◌, ℕ, ◌+◌, ◌*◌, ◌<◌, ◌≤◌, ◌^◌, ◌||◌, Bool, true, false, cond, List, [], ◌++◌, Some, length, refl, sym, ap, ◌∙◌, subst, arith}
+use Rattle.std.proofs.Common.{◌≡◌, ℕ, ◌+◌, ◌*◌, ◌<◌, ◌≤◌, ◌^◌, ◌||◌, Bool, true, false, List, [], ◌++◌, Some, length, refl, sym, ap, ◌∙◌, subst, arith}
 use Rattle.std.proofs.lemmas.Bool.{cond-true, cond-false}
 use Rattle.ndis_base.specs.declared.ModuleState.TheVariants as state
 use Rattle.ndis_base.specs.declared.Phase.{Phase}
@@ -11,11 +11,6 @@ use Rattle.journal_types.specs.declared.Reply.{Reply}
 use Rattle.journal_types.specs.declared.Reply.TheVariants as reply
 use Rattle.journal_types.specs.declared.Row.{Row}
 use Rattle.journal_types.specs.declared.StackHead.{StackHead}
-use Rattle.flat_journal.specs.declared.types.FlatReply.{FlatReply}
-use Rattle.flat_journal.specs.declared.types.FlatReply.TheVariants as flat_reply
-use Rattle.flat_journal.specs.Payloads.{Payloads}
-use Rattle.flat_journal.specs.Shown.{reply_of}
-use Rattle.flat_journal.specs.Within.{ReplyWithin}
 use Rattle.stack_rules.specs.Net.{Net, after_rows}
 use Rattle.stack_rules.specs.Outcome.{Outcome, refused}
 use Rattle.stack_rules.specs.Pauses.{floors, is_top, restart_at, restart_outcome, running_floors}
@@ -213,18 +208,3 @@ pub turns_left : (b t : TrayView) (begun : Bool) → 1 ≤ b.room.turns → t �
 turns_left b t begun turns made =
     let used = (has_written (next_rows b.net begun) b (step_phases b.net begun)).used.turns in
     omega (arith, turns, used, ap (λ (x : TrayView). x.room.turns) made)
-
--- the answer to a step
-reply_shown : (p : Payloads) (top : Bool) → reply_of p (cond top flat_reply.Running flat_reply.Next) ≡ cond top reply.Running reply.Next
-reply_shown p true = refl
-reply_shown p false = refl
-
-pub reply_is : (net : Net) (p : Payloads) (r : FlatReply) (top : Bool) → r ≡ cond top flat_reply.Running flat_reply.Next → top ≡ is_top net (running_floors net) → reply_of p r ≡ next_reply net
-reply_is net p r top is tops = ap (reply_of p) is ∙ reply_shown p top ∙ ap (λ b. cond b reply.Running reply.Next) tops
-
-shown_within : (p : Payloads) (top : Bool) → ReplyWithin p (cond top flat_reply.Running flat_reply.Next)
-shown_within p true = tt
-shown_within p false = tt
-
-pub reply_within : (p : Payloads) (r : FlatReply) (top : Bool) → r ≡ cond top flat_reply.Running flat_reply.Next → ReplyWithin p r
-reply_within p r top is = subst (ReplyWithin p) (sym is) (shown_within p top)

@@ -1,6 +1,5 @@
 //! The drivers of a stack are set up.
-ghost use Rattle.std.specs.Prelude.{◌≡◌, ◌≤◌, ◌<◌, ◌^◌, ◌++◌, [], OnOk, OnErr, IfErr, All, false, length, map, take, drop};
-ghost use Rattle.driver_views.specs.States.{ProtocolState};
+ghost use Rattle.std.specs.Prelude.{◌≡◌, ◌≤◌, ◌<◌, ◌^◌, ◌++◌, [], OnOk, OnErr, IfErr, All, length, map, take, drop};
 ghost use Rattle.driver_calls.specs.declared.faults.AttachFault.TheVariants.{Refused, Memory};
 ghost use Rattle.driver_calls.specs.Miniports.{MayInitialize};
 ghost use Rattle.driver_calls.specs.Protocols.{MayOpen};

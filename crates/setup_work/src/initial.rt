@@ -1,5 +1,5 @@
 //! A stack is initialised.
-ghost use Rattle.std.specs.Prelude.{◌≡◌, ◌+◌, ◌*◌, ◌≤◌, ◌<◌, ◌^◌, OnOk, OnErr, IfOk};
+ghost use Rattle.std.specs.Prelude.{◌≡◌, ◌+◌, ◌*◌, ◌≤◌, ◌<◌, OnOk, OnErr, IfOk};
 ghost use Rattle.journal_types.specs.declared.Event.TheVariants as event;
 ghost use Rattle.flat_journal.specs.Shown.{reply_of};
 ghost use Rattle.flat_journal.specs.Within.{ReplyWithin};
@@ -60,12 +60,7 @@ pub fn initialize<M: MiniportCalls, P: ProtocolCalls, F: FilterCalls>(
         0,
     )?;
     match book.tray.phase() {
-        Phase::Halted => match set_up(
-            &mut book.miniport,
-            &mut book.protocols,
-            &book.tray,
-            alloc,
-        ) {
+        Phase::Halted => match set_up(&mut book.miniport, &mut book.protocols, &book.tray, alloc) {
             Ok(()) => {
                 write_up(&mut book.tray, bindings);
                 Ok(FlatReply::Ok)

@@ -1,5 +1,5 @@
 //! A step of a restart.
-ghost use Rattle.std.specs.Prelude.{◌≡◌, ◌+◌, ◌*◌, ◌≤◌, ◌<◌, ◌^◌, Bool, OnOk, OnErr, IfOk, length, if◌then◌else◌};
+ghost use Rattle.std.specs.Prelude.{◌≡◌, ◌+◌, ◌*◌, ◌≤◌, ◌<◌, ◌^◌, OnOk, OnErr, IfOk, if◌then◌else◌};
 ghost use Rattle.journal_types.specs.declared.Event.TheVariants as event;
 ghost use Rattle.journal_types.specs.declared.Reply.TheVariants as reply;
 ghost use Rattle.flat_journal.specs.declared.types.FlatReply.TheVariants as flat_reply;
