@@ -1,0 +1,3 @@
+pub mod Takers
+pub mod Desks
+pub mod Works
