@@ -109,11 +109,7 @@ fn work_running<M: MiniportCalls, P: ProtocolCalls, F: FilterCalls>(
 /// frame gets it, in rising order; it is lent to all but the last one (WDK, "Receiving Data in Protocol
 /// Drivers", "OID_GEN_CURRENT_PACKET_FILTER"). Where nobody takes it, it goes back, and while the stack
 /// doesn't run, it is turned back. It also answers want of memory where there are 2 to the power of 32
-<<<<<<< HEAD
-/// bindings or more.
-=======
 /// bindings or more, or a count comes near 2 to the power of 60, which no run can reach.
->>>>>>> ef17bee2408b7382910f3729531da6793bab29ab
 pub fn work_bindings<M: MiniportCalls, P: ProtocolCalls, F: FilterCalls>(
     book: &mut BookParts<M, P, F>,
 ) -> Result<(), OutOfMemory>

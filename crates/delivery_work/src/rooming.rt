@@ -3,13 +3,8 @@ ghost use Rattle.std.specs.Prelude.{◌≡◌, ◌≤◌, OnOk, OnErr, length, m
 ghost use Rattle.std.specs.List.{All};
 ghost use Rattle.book_parts.specs.Parts.{view_of};
 ghost use Rattle.binding_work.specs.Homes.{IsRoomed};
-<<<<<<< HEAD
-ghost use Rattle.delivery_work.specs.Desks.{CanTake};
-ghost use Rattle.binding_work.specs.Owns.{TrayRoomed};
-=======
 ghost use Rattle.binding_work.specs.Owns.{TrayRoomed};
 ghost use Rattle.delivery_work.specs.Desks.{CanTake};
->>>>>>> ef17bee2408b7382910f3729531da6793bab29ab
 ghost use Rattle.delivery_work.specs.Works.{IsReadyForAll, IsTrayReady};
 
 use book_parts::BookParts;
@@ -67,12 +62,8 @@ fn tray_room(tray: &mut Tray, many: u32) -> Result<(), OutOfMemory>
     Ok(())
 }
 
-<<<<<<< HEAD
-/// Makes all room that a receive at the bindings wants, where there are so many.
-=======
 /// Makes all room that a receive at the bindings wants, where there are so many. It also answers want of
 /// memory where a count comes near 2 to the power of 60, which no run can reach.
->>>>>>> ef17bee2408b7382910f3729531da6793bab29ab
 pub fn make_all_room<M: MiniportCalls, P: ProtocolCalls, F: FilterCalls>(
     book: &mut BookParts<M, P, F>,
     many: u32,
