@@ -1,0 +1,14 @@
+pub mod Balking
+pub mod Begun
+pub mod Causes
+pub mod Counted
+pub mod Empty
+pub mod Fresh
+pub mod Inserted
+pub mod Inserting
+pub mod Orders
+pub mod Reseated
+pub mod Rested
+pub mod Rising
+pub mod Shelving
+pub mod Sitting

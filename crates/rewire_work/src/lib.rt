@@ -1,0 +1,8 @@
+//! Filters are attached and detached while a stack is Paused.
+#![tactic(auto)]
+
+pub mod inserts;
+pub mod quiet;
+pub mod seats;
+
+pub use crate::inserts::insert;
