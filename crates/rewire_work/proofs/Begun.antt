@@ -34,7 +34,7 @@ pub did_begun : (old : BookView) (t : TrayView) (new : BookView) (e : Event) (an
 did_begun old t new e answer g d =
     let by : Option (Event × Reply) = new.tray.told_by in
     let used : HasUsed old.tray new.tray.rows new.tray = used_then old.tray t new.tray [] new.tray.rows g.used
-    (record { rows_used = d.goes.used.rows_used; frames = d.goes.used.frames; bytes = d.goes.used.bytes; slack = d.goes.used.slack; turns = d.goes.used.turns }) in
+    (record { rows_used = d.goes.used.rows_used; frames = d.goes.used.frames; bytes = d.goes.used.bytes; slack = d.goes.used.slack; turns = d.goes.used.turns; payloads = d.goes.used.payloads }) in
     record {
       book = d.book;
       choice = d.choice;
@@ -47,7 +47,7 @@ did_begun old t new e answer g d =
         told_by = refl;
         net = d.goes.net ∙ ap (λ n. after_rows (begun_by n by) new.tray.rows) g.net;
         rows = d.goes.rows ∙ ap (λ rs. rs ++ new.tray.rows) g.rows;
-        used = record { rows_used = used.rows_used; frames = used.frames; bytes = used.bytes; slack = used.slack; turns = used.turns };
+        used = record { rows_used = used.rows_used; frames = used.frames; bytes = used.bytes; slack = used.slack; turns = used.turns; payloads = used.payloads };
         did = subst (λ n. Did old.held.seats old.held new.held (begun_by n by) new.tray.rows) g.net d.goes.did;
       };
     }

@@ -206,7 +206,7 @@ module _ (old : BookView) (kind : FilterKind) (position : ℕ) (setup : Setup) (
   used_rows : HasUsed (begun_with old new.tray.told_by).tray rows new.tray
   used_rows =
       let three : length rows ≡ 3 = refl in
-      record { rows_used = omega (arith, three); frames = omega arith; bytes = omega arith; slack = omega arith; turns = omega arith }
+      record { rows_used = omega (arith, three); frames = omega arith; bytes = omega arith; slack = omega arith; turns = omega arith; payloads = record { frames = ([], sym (append-nil _)); filters = (insert old.tray.net.modules.order (position - 1) f, refl); setups = ([], sym (append-nil _)) } }
 
   pub did_insert : DidEvent old new e (reply.Inserted f)
   did_insert = record {

@@ -49,15 +49,28 @@ some_same p q o e k = cc
 at_place : (g q place : ℕ) (seats : List (ℕ × ℕ)) → seat_of seats g ≡ Some place → seat_of seats g ≡ Some q → q ≡ place
 at_place g q place seats e k = some_same q place (seat_of seats g) k e
 
+-- the seats with one more
+seat_new : (seats : List (ℕ × ℕ)) (f place : ℕ) → seat_of seats f ≡ None → seat_of (seats ++ (f, place) ∷ []) f ≡ Some place
+seat_new [] f place none = cond-true (f == f) (Some place) None (eq-eqb f f refl)
+seat_new (x ∷ xs) f place none = cases (x.0 == f) none
+  where
+    cases : (b : Bool) → cond b (Some x.1) (seat_of xs f) ≡ None → cond b (Some x.1) (seat_of (xs ++ (f, place) ∷ []) f) ≡ Some place
+    cases true e = cc
+    cases false e = seat_new xs f place e
+
+seat_old : (seats : List (ℕ × ℕ)) (f place g : ℕ) → (f == g) ≡ false → seat_of (seats ++ (f, place) ∷ []) g ≡ seat_of seats g
+seat_old [] f place g other = cond-false (f == g) (Some place) None other
+seat_old (x ∷ xs) f place g other = ap (cond (x.0 == g) (Some x.1)) (seat_old xs f place g other)
+
 module _ (held : HeldView) (f place : ℕ) (s : FilterState) (pool : PoolView) (may : MaySit held f place s pool) where
   abbrev new : HeldView
   new = seated held f place s pool
 
   pub here : seat_of new.seats f ≡ Some place
-  here = cond-true (f == f) (Some place) (seat_of held.seats f) (eq-eqb f f refl)
+  here = seat_new held.seats f place may.free
 
   pub there : (g : ℕ) → (g ≡ f → ⊥) → seat_of new.seats g ≡ seat_of held.seats g
-  there g ne = cond-false (f == g) (Some place) (seat_of held.seats g) (ne_eqb f g (λ e. ne (sym e)))
+  there g ne = seat_old held.seats f place g (ne_eqb f g (λ e. ne (sym e)))
 
   pub filter_here : filter_at new.filters (Some place) ≡ s
   filter_here = get_or-set_same held.filters place s no_filter may.is.is.driver

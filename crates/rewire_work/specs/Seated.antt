@@ -31,7 +31,7 @@ abbrev pub seated : HeldView → ℕ → ℕ → FilterState → PoolView → He
 seated held f place s pool = record held {
   filters = slice_set held.filters place s;
   filter_pools = slice_set held.filter_pools place pool;
-  seats = (f, place) ∷ held.seats;
+  seats = held.seats ++ (f, place) ∷ [];
   shelf = without_place place held.shelf;
 }
 

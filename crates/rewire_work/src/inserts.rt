@@ -155,7 +155,6 @@ pub fn insert<M: MiniportCalls, P: ProtocolCalls, F: FilterCalls>(
     requires setup { SetupWithin (view_of M.state P.state F.state book.old).tray.payloads setup }
     ensures did { IfOk result (λ r. DidEvent (view_of M.state P.state F.state book.old) (view_of M.state P.state F.state book.new) (event.Insert kind position (setup_at (view_of M.state P.state F.state book.old).tray.payloads.setups setup)) (reply_of (view_of M.state P.state F.state book.new).tray.payloads r)) }
     ensures shelf { IfOk result (λ r. FollowsShelf (view_of M.state P.state F.state book.old) (view_of M.state P.state F.state book.new) (event.Insert kind position (setup_at (view_of M.state P.state F.state book.old).tray.payloads.setups setup)) (reply_of (view_of M.state P.state F.state book.new).tray.payloads r)) }
-    ensures setups { (view_of M.state P.state F.state book.new).tray.payloads.setups ≡ (view_of M.state P.state F.state book.old).tray.payloads.setups }
     ensures within { IfOk result (λ r. ReplyWithin (view_of M.state P.state F.state book.new).tray.payloads r) }
     ensures turn { OnOk result (CanEnd (view_of M.state P.state F.state book.new)) }
     ensures memory { OnErr result (IsUnmoved (view_of M.state P.state F.state book.old) (view_of M.state P.state F.state book.new)) }

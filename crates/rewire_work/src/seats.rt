@@ -1,5 +1,5 @@
 //! The drivers of filters at their places, their seats and their shelf.
-ghost use Rattle.std.specs.Prelude.{◌≡◌, ◌==◌, ◌<◌, ◌∷◌, ℕ, All, Some, OnOk, OnErr, IfErr, length, map, find, slice_set};
+ghost use Rattle.std.specs.Prelude.{◌≡◌, ◌==◌, ◌<◌, ◌∷◌, ◌++◌, [], ℕ, All, Some, OnOk, OnErr, IfErr, length, map, find, slice_set};
 ghost use Rattle.std.specs.Vec.{vec_len, vec_capacity};
 ghost use Rattle.promise_rules.specs.Drivers.{same_filter_kind, without_place};
 ghost use Rattle.driver_calls.specs.declared.faults.AttachFault.TheVariants.{Refused, Memory};
@@ -106,9 +106,9 @@ pub fn seat(
 )
     requires room { vec_len seats.old < vec_capacity seats.old }
     requires place { place < length pools.old.items }
-    ensures seats { seats.new.items ≡ (f, place) ∷ seats.old.items }
+    ensures seats { seats.new.items ≡ seats.old.items ++ (f, place) ∷ [] }
     ensures pools { pools.new.items ≡ slice_set pools.old.items place pool }
 {
-    seats.insert_reserved(0, (f, place));
+    seats.push_reserved((f, place));
     pools[place] = pool;
 }
