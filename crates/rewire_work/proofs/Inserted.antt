@@ -126,36 +126,49 @@ shelf_refused old kind position setup cause i = follows_still old old _ _ i.rows
 counts_took : (held : HeldView) (place : ℕ) (s : FilterState) → place < length held.filters → s.did ≡ (filter_at held.filters (Some place)).did → CountsNothing held (took_state held place s)
 counts_took held place s within same = record { miniport = refl; protocols = λ i. refl; filters = λ q. did_still held.filters place s within same q (cases_eq q place) }
 
-pub did_balk : (old : BookView) (kind : FilterKind) (position : ℕ) (setup : Setup) (place : ℕ) (s : FilterState) → IsBook old → IsIdle old → insert_refusal old.tray.net position ≡ None → IsFirst old kind place
-    → Refuses (filter_at old.held.filters (Some place)) s → DidEvent old (record { tray = old.tray; held = took_state old.held place s }) (event.Insert kind position setup) (reply.Refused refusal.AttachRefused)
-did_balk old kind position setup place s k i e first r =
-    let new : BookView = record { tray = old.tray; held = took_state old.held place s } in
-    let paused : old.tray.net.phase ≡ phase.Paused = paused_first old.tray.net _ e in
-    let is : insert_outcome old.tray.net position refuses ≡ refused refusal.AttachRefused =
-    insert_is old.tray.net position refuses ∙ ap (λ c. refused_or c (when_attached refuses (inserted old.tray.net position))) e ∙ balked (inserted old.tray.net position) in
+pub ends_took : (old : BookView) (kind : FilterKind) (place : ℕ) (s : FilterState) → IsBook old → IsIdle old → old.tray.net.phase ≡ phase.Paused → IsFirst old kind place
+    → Refuses (filter_at old.held.filters (Some place)) s → Ends old (record { tray = old.tray; held = took_state old.held place s }) []
+ends_took old kind place s k i paused first r =
     let rests : IsResting s = record { setup = ap (λ (x : FilterState). x.setup) r.same ∙ first.rests.setup; kept = ap (λ (x : FilterState). x.kept) r.same ∙ first.rests.kept } in
-    let counts : CountsNothing old.held new.held = counts_took old.held place s first.on.is.driver (ap (λ (x : FilterState). x.did) r.same) in
-    let ends : Ends old new [] = record {
+    let counts : CountsNothing old.held (took_state old.held place s) = counts_took old.held place s first.on.is.driver (ap (λ (x : FilterState). x.did) r.same) in
+    record {
       head = refl;
       turns = refl;
       told_by = refl;
       net = refl;
       rows_are = sym (append-nil old.tray.rows);
       used = used_none old.tray;
-      did = did_nothing old.held.seats old.held new.held old.tray.net [] refl (λ m. refl) counts;
-      stands = stands_took place s k.stands (nothing_live old k i paused) paused first.on rests;
-    } in
-    did_event old new [] (event.Insert kind position setup) refuses (reply.Refused refusal.AttachRefused) k i ends
+      did = did_nothing old.held.seats old.held (took_state old.held place s) old.tray.net [] refl (λ m. refl) counts;
+      stands = stands_took place s k.stands (at_rest old k i paused).nothing paused first.on rests;
+    }
+
+pub did_balk : (old : BookView) (kind : FilterKind) (position : ℕ) (setup : Setup) (place : ℕ) (s : FilterState) → IsBook old → IsIdle old → insert_refusal old.tray.net position ≡ None → IsFirst old kind place
+    → Refuses (filter_at old.held.filters (Some place)) s → DidEvent old (record { tray = old.tray; held = took_state old.held place s }) (event.Insert kind position setup) (reply.Refused refusal.AttachRefused)
+did_balk old kind position setup place s k i e first r =
+    let is : insert_outcome old.tray.net position refuses ≡ refused refusal.AttachRefused =
+    insert_is old.tray.net position refuses ∙ ap (λ c. refused_or c (when_attached refuses (inserted old.tray.net position))) e ∙ balked (inserted old.tray.net position) in
+    did_event old (record { tray = old.tray; held = took_state old.held place s }) [] (event.Insert kind position setup) refuses (reply.Refused refusal.AttachRefused) k i
+    (ends_took old kind place s k i (paused_first old.tray.net _ e) first r)
     (sym (ap (λ (o : Outcome). o.reply) is)) (sym (ap (λ (o : Outcome). o.rows) is)) refl
-  where
-    nothing_live : (b : BookView) → IsBook b → IsIdle b → b.tray.net.phase ≡ phase.Paused → lists b.tray.net.things ≡ []
-    nothing_live b k i paused = (at_rest b k i paused).nothing
 
 pub shelf_balked : (old : BookView) (kind : FilterKind) (position : ℕ) (setup : Setup) (place : ℕ) (s : FilterState) → IsIdle old → Refuses (filter_at old.held.filters (Some place)) s
     → FollowsShelf old (record { tray = old.tray; held = took_state old.held place s }) (event.Insert kind position setup) (reply.Refused refusal.AttachRefused)
 shelf_balked old kind position setup place s i r =
     follows_still old (record { tray = old.tray; held = took_state old.held place s }) _ _ i.rows refl refl refl refl
     (kinds_same old.held.filters place s (ap (λ (x : FilterState). x.kind) r.same)) (λ kinds shelf. refl)
+
+-- no filter has or had the next number
+pub next_free : (old : BookView) → IsBook old → IsIdle old → driver_of (shelf_of (kinds_of old.held) old.tray.turns).drivers old.tray.net.next.filter ≡ None
+next_free old k i =
+    none_below old.tray.net.next.filter (shelf_of (kinds_of old.held) old.tray.turns).drivers
+    (subst (λ (n : Net). AreBelow n.next.filter (shelf_of (kinds_of old.held) old.tray.turns).drivers) (sym (idle_state old k i)) (shelf_below (kinds_of old.held) old.tray.head old.tray.turns k.follows.sound))
+
+-- the driver that was found is the one that is promised
+pub first_taken : (old : BookView) (kind : FilterKind) (place : ℕ) → IsBook old → IsShelved old.tray.net old.tray.turns old.held → IsFirst old kind place
+    → find (is_of_kind kind (kinds_of old.held)) (shelf_of (kinds_of old.held) old.tray.turns).places ≡ Some place
+first_taken old kind place k was first =
+    let within : All (λ p. p < length old.held.filters) old.held.shelf = All-weaker (IsOnShelf old.held) (λ p. p < length old.held.filters) (λ p o. o.is.driver) old.held.shelf k.stands.shelved in
+    ap (find (is_of_kind kind (kinds_of old.held))) (sym was.shelf) ∙ find_same kind old.held.filters old.held.shelf within ∙ first.found
 
 -- the filter was inserted
 module _ (old : BookView) (kind : FilterKind) (position : ℕ) (setup : Setup) (place : ℕ) (k : IsBook old) (i : IsIdle old) (rest : IsAtRest old.tray.net) (quiet : insert_refusal old.tray.net position ≡ None) (first : IsFirst old kind place) (free : seat_of old.held.seats old.tray.net.next.filter ≡ None) where
@@ -233,23 +246,16 @@ module _ (old : BookView) (kind : FilterKind) (position : ℕ) (setup : Setup) (
   after_shelf : (who : Who) → IsShelved old.tray.net old.tray.turns old.held
       → shelf_of (kinds_of new.held) (new.tray.turns ++ turn_of new.tray who e (reply.Inserted f) ∷ []) ≡ taken_from f (shelf_of (kinds_of old.held) old.tray.turns) (Some place)
   after_shelf who was =
-      let shelf : Shelf = shelf_of (kinds_of old.held) old.tray.turns in
-      let within : All (λ p. p < length old.held.filters) old.held.shelf = All-weaker (IsOnShelf old.held) (λ p. p < length old.held.filters) (λ p o. o.is.driver) old.held.shelf k.stands.shelved in
       shelf_then (kinds_of new.held) old.tray.turns (turn_of new.tray who e (reply.Inserted f))
       ∙ ap (λ rs. shelf_in_rows rs (shelf_told (kinds_of new.held) e (reply.Inserted f) (shelf_of (kinds_of new.held) old.tray.turns))) rows_are
       ∙ ap (λ ks. shelf_told ks e (reply.Inserted f) (shelf_of ks old.tray.turns)) same_kinds
-      ∙ ap (taken_from f shelf) (ap (find (is_of_kind kind (kinds_of old.held))) (sym was.shelf) ∙ find_same kind old.held.filters old.held.shelf within ∙ first.found)
-
-  no_driver : driver_of (shelf_of (kinds_of old.held) old.tray.turns).drivers f ≡ None
-  no_driver =
-      none_below f (shelf_of (kinds_of old.held) old.tray.turns).drivers
-      (subst (λ (n : Net). AreBelow n.next.filter (shelf_of (kinds_of old.held) old.tray.turns).drivers) (sym (idle_state old k i)) (shelf_below (kinds_of old.held) old.tray.head old.tray.turns k.follows.sound))
+      ∙ ap (taken_from f (shelf_of (kinds_of old.held) old.tray.turns)) (first_taken old kind place k was first)
 
   seat_shelved : IsShelved old.tray.net old.tray.turns old.held → (g : ℕ) (a : Attached) → attached g new.tray.net.modules.filters ≡ Some a → (g ≡ f) ⊎ (g ≡ f → ⊥)
       → seat_of new.held.seats g ≡ driver_of (taken_from f (shelf_of (kinds_of old.held) old.tray.turns) (Some place)).drivers g
   seat_shelved was g a at (inl same) =
       let drivers : List (ℕ × ℕ) = (shelf_of (kinds_of old.held) old.tray.turns).drivers in
-      ap (seat_of new.held.seats) same ∙ here old.held f place s (pool_for setup) may ∙ sym (driver_new drivers f place no_driver) ∙ ap (driver_of (drivers ++ (f, place) ∷ [])) (sym same)
+      ap (seat_of new.held.seats) same ∙ here old.held f place s (pool_for setup) may ∙ sym (driver_new drivers f place (next_free old k i)) ∙ ap (driver_of (drivers ++ (f, place) ∷ [])) (sym same)
   seat_shelved was g a at (inr ne) =
       let drivers : List (ℕ × ℕ) = (shelf_of (kinds_of old.held) old.tray.turns).drivers in
       let w = was_there old.tray.net rest kind setup g a at ne in

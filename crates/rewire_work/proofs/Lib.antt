@@ -7,8 +7,11 @@ pub mod Fresh
 pub mod Inserted
 pub mod Inserting
 pub mod Orders
+pub mod Removed
+pub mod Replaced
 pub mod Reseated
 pub mod Rested
+pub mod Rewired
 pub mod Rising
 pub mod Shelving
 pub mod Sitting

@@ -10,6 +10,7 @@ use Rattle.order_laws.specs.Orders.{AreAsMany}
 use Rattle.order_laws.proofs.Attached.{each_is_as_many}
 use Rattle.order_laws.proofs.Bounds.{each_order_fits}
 use Rattle.book_lemmas.specs.Views.{BookView}
+use Rattle.book_lemmas.proofs.Between.{listed}
 use Rattle.book_parts.specs.Events.{IsBook, IsIdle}
 use Rattle.book_parts.proofs.Ended.{idle_state}
 use Rattle.rewire_work.specs.Rested.{IsAtRest}
@@ -28,4 +29,5 @@ at_rest old k i e =
       wired = (at_phase old.tray.net phase.Paused shaped e).0;
       few = subst (λ (n : Net). length n.modules.order ≤ 16) (sym is) (each_order_fits old.tray.head old.tray.turns k.follows.sound);
       as_many = ap (λ (n : Net). length n.modules.filters) is ∙ many.attached (λ h. paused_not_halted _ paused h) ∙ ap (λ (n : Net). length n.modules.order) (sym is);
+      ordered = (listed (record { is = is; sound = k.follows.sound; bound = k.bound }) (λ h. paused_not_halted _ e h)).ordered;
     }

@@ -2,6 +2,7 @@
 use Rattle.std.specs.Prelude.{◌≡◌, ◌≤◌, [], length}
 use Rattle.flat_journal.specs.Rooms.{Covers}
 use Rattle.stack_rules.specs.Net.{Net, lists}
+use Rattle.place_laws.specs.Kept.{IsOrdered}
 use Rattle.state_laws.specs.Shape.{IsWired}
 use Rattle.driver_tray.specs.Tray.{TrayView}
 
@@ -11,6 +12,7 @@ pub record IsAtRest (net : Net) : Type 0 where
   pub wired : IsWired net.next.filter net.modules
   pub few : length net.modules.order ≤ 16
   pub as_many : length net.modules.filters ≡ length net.modules.order
+  pub ordered : IsOrdered net.modules
 
 -- only room was made
 pub record IsRoomed (t t' : TrayView) : Type 0 where

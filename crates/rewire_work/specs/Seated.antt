@@ -1,5 +1,5 @@
 -- A filter sits down at the place of a driver on the shelf.
-use Rattle.std.specs.Prelude.{◌≡◌, ℕ, ◌+◌, ◌-◌, ◌==◌, Bool, not, [], ◌∷◌, ◌++◌, List, Option, Some, None, slice_set, insert, filter}
+use Rattle.std.specs.Prelude.{◌≡◌, ℕ, ◌+◌, ◌-◌, ◌==◌, Bool, not, [], ◌∷◌, ◌++◌, List, Option, Some, None, slice_set, insert, filter, map}
 use Rattle.ndis_base.specs.declared.FilterKind.{FilterKind}
 use Rattle.ndis_base.specs.declared.ModuleId.TheVariants.{Filter}
 use Rattle.ndis_base.specs.declared.ModuleState.TheVariants as state
@@ -12,6 +12,7 @@ use Rattle.flat_journal.specs.declared.types.FlatReply.{FlatReply}
 use Rattle.flat_journal.specs.declared.types.FlatReply.TheVariants as flat_reply
 use Rattle.stack_rules.specs.Outcome.{config_no}
 use Rattle.stack_rules.specs.Pauses.{state_row}
+use Rattle.stack_rules.specs.Rewires.{swapped}
 use Rattle.promise_rules.specs.Drivers.{same_filter_kind, without_place}
 use Rattle.driver_views.specs.States.{FilterState}
 use Rattle.driver_tray.specs.Tray.{TrayView, told_to, written, configured}
@@ -81,3 +82,33 @@ unseated held f place s = record held {
 -- the driver without a set-up
 abbrev pub put_down : FilterState → FilterState
 put_down s = record s { setup = None }
+
+-- a filter was removed
+abbrev pub removed_tray : TrayView → ℕ → TrayView
+removed_tray t f = reordered (written t (state_row state.Detached (Filter f))) (filter (λ g. not (g == f)) t.net.modules.order)
+
+pub record Removes (f : ℕ) (old new : BookView) : Type 0 where
+  pub place : ℕ
+  pub seat : seat_of old.held.seats f ≡ Some place
+  pub tray : new.tray ≡ removed_tray old.tray f
+  pub held : new.held ≡ unseated old.held f place (put_down (filter_at old.held.filters (Some place)))
+
+-- a filter took another's place in the order
+abbrev pub replaced_tray : TrayView → ℕ → FilterKind → Setup → TrayView
+replaced_tray t f kind setup =
+    reordered (attaching (written (told_to t (event.Replace f kind setup) (reply.Replaced t.net.next.filter)) (state_row state.Detached (Filter f))) t.net.next.filter)
+    (map (swapped f t.net.next.filter) t.net.modules.order)
+
+-- the new filter sits, and the old one got up
+abbrev pub reseated : HeldView → ℕ → ℕ → ℕ → ℕ → Setup → HeldView
+reseated held f q n place setup =
+    let sat = seated held n place (set_up (filter_at held.filters (Some place)) setup) (pool_for setup) in
+    unseated sat f q (put_down (filter_at sat.filters (Some q)))
+
+-- the driver at a place attached, and its filter took the place of another; or it refused
+pub data Replaces (f : ℕ) (kind : FilterKind) (setup : Setup) (place : ℕ) (old new : BookView) (r : FlatReply) : Type 0 where
+  swaps : (q : ℕ) → seat_of old.held.seats f ≡ Some q → seat_of old.held.seats old.tray.net.next.filter ≡ None
+      → r ≡ flat_reply.Replaced old.tray.net.next.filter → new.tray ≡ replaced_tray old.tray f kind setup
+      → new.held ≡ reseated old.held f q old.tray.net.next.filter place setup → Replaces f kind setup place old new r
+  balks : (s : FilterState) → r ≡ flat_reply.Refused refusal.AttachRefused → new.tray ≡ old.tray
+      → Refuses (filter_at old.held.filters (Some place)) s → new.held ≡ took_state old.held place s → Replaces f kind setup place old new r

@@ -15,6 +15,7 @@ ghost use Rattle.rewire_work.specs.Seated.{is_kind_at, attaching, reordered, Ins
 ghost use Rattle.rewire_work.specs.Shelves.{FollowsShelf};
 
 use crate::quiet::{insert_refusal, live_count};
+use crate::room::{make_room, write_attached, write_order};
 use crate::seats::{attach_at, first_of_kind, place_of, seat, take_off};
 use book_parts::BookParts;
 use buffer_pools::ListPool;
@@ -27,28 +28,6 @@ use std::alloc::Global;
 
 const MAX_FRAME: usize = 1518;
 const FAR: u64 = 1 << 60;
-
-/// Writes that a filter is attached.
-pub fn write_attached(tray: &mut Tray, f: u64)
-    requires number { f + 1 < 2 ^ 64 }
-    requires room { 2 ≤ tray.old.room.rows }
-    ensures { tray.new ≡ attaching tray.old f }
-{
-    tray.write_phase(PhaseOf::Module(ModuleId::Filter(f), ModuleState::Attaching));
-    tray.write_phase(PhaseOf::Module(ModuleId::Filter(f), ModuleState::Paused));
-}
-
-/// Writes the next configuration, with the order of its filters.
-pub fn write_order(tray: &mut Tray, order: &[u64])
-    requires number { tray.old.net.modules.config + 1 < 2 ^ 64 }
-    requires few { length order.now ≤ 16 }
-    requires filters { length order.now ≤ tray.old.room.filters }
-    requires room { 1 ≤ tray.old.room.rows }
-    ensures { tray.new ≡ reordered tray.old order.now }
-{
-    let config = tray.config();
-    tray.write_config(ConfigNo(config.0 + 1), order);
-}
 
 /// The order with a filter more.
 fn longer_order(
@@ -66,28 +45,9 @@ fn longer_order(
     Ok(longer)
 }
 
-/// Makes all room that a change of the filters wants of the tray and the seats.
-fn make_room(tray: &mut Tray, seats: &mut Vec<(u64, usize)>) -> Result<(), OutOfMemory>
-    ensures tray { IsRoomed tray.old tray.new }
-    ensures seats { seats.new.items ≡ seats.old.items }
-    ensures ready { OnOk result (IsReady tray.new) }
-    ensures seat { OnOk result (vec_len seats.new < vec_capacity seats.new) }
-{
-    seats.reserve(1)?;
-    tray.make_room(
-        Room {
-            turns: 1,
-            rows: 4,
-            filters: 16,
-            ..Room::none()
-        },
-        0,
-    )
-}
-
 /// The number of the filter that is attached next; None where a number has come to 2 to the power of 60,
 /// which no run can reach, or where a filter of the number is seated, which none is.
-fn next_number(tray: &Tray, seats: &[(u64, usize)]) -> Option<u64>
+pub fn next_number(tray: &Tray, seats: &[(u64, usize)]) -> Option<u64>
     ensures number { IfSome result (λ f. f ≡ tray.now.net.next.filter) }
     ensures low { IfSome result (λ f. f < 2 ^ 60) }
     ensures config { OnSome result (tray.now.net.modules.config < 2 ^ 60) }

@@ -1,9 +1,10 @@
 //! What a change of the filters is refused for.
-ghost use Rattle.std.specs.Prelude.{◌≡◌, not, None, IfSome, count_by};
+ghost use Rattle.std.specs.Prelude.{◌≡◌, ◌<◌, ◌^◌, not, true, None, IfSome, count_by};
 ghost use Rattle.stack_rules.specs.Pauses.{live_items, statuses_away};
 ghost use Rattle.stack_rules.specs.Requests.{is_at_entry};
+ghost use Rattle.stack_rules.specs.Rewires.{is_in};
 ghost use Rattle.driver_tray.specs.Tray.{is_status_away};
-ghost use Rattle.rewire_work.specs.Refusals.{quiet_refusal, order_refusal, insert_refusal};
+ghost use Rattle.rewire_work.specs.Refusals.{quiet_refusal, order_refusal, insert_refusal, module_refusal, rewire_refusal};
 
 use driver_tray::Tray;
 use journal_types::Refusal;
@@ -75,4 +76,41 @@ pub fn insert_refusal(tray: &Tray, live: u64, position: u8) -> Option<Refusal>
         Some(cause) => Some(cause),
         None => order_refusal(tray, position),
     }
+}
+
+/// What a filter is refused for.
+fn module_refusal(tray: &Tray, filter: u64) -> Option<Refusal>
+    ensures { result ≡ module_refusal tray.now.net filter }
+{
+    if is_in(filter, tray.order()) {
+        None
+    } else {
+        Some(Refusal::NoModule)
+    }
+}
+
+/// What a removal or a replacement is refused for, before any driver is asked.
+pub fn rewire_refusal(tray: &Tray, live: u64, filter: u64) -> Option<Refusal>
+    requires { live ≡ live_items tray.now.net }
+    ensures { result ≡ rewire_refusal tray.now.net filter }
+{
+    match quiet_refusal(tray, live) {
+        Some(cause) => Some(cause),
+        None => module_refusal(tray, filter),
+    }
+}
+
+fn is_in(filter: u64, order: &[u64]) -> bool
+    ensures { result ≡ is_in filter order.now }
+{
+    order.iter().any(|other| *other == filter)
+}
+
+/// Whether the numbers of the next filter and the next configuration are far from the largest: below 2 to
+/// the power of 60, which no run can reach.
+pub fn is_low(tray: &Tray) -> bool
+    ensures filter { result ≡ true → tray.now.net.next.filter < 2 ^ 60 }
+    ensures config { result ≡ true → tray.now.net.modules.config < 2 ^ 60 }
+{
+    tray.next_filter() < 1 << 60 && tray.config().0 < 1 << 60
 }

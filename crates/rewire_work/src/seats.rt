@@ -5,7 +5,7 @@ ghost use Rattle.promise_rules.specs.Drivers.{same_filter_kind, without_place};
 ghost use Rattle.driver_calls.specs.declared.faults.AttachFault.TheVariants.{Refused, Memory};
 ghost use Rattle.driver_calls.specs.Filters.{MayAttach, Refuses};
 ghost use Rattle.book_lemmas.specs.Views.{filter_at, seat_of};
-ghost use Rattle.rewire_work.specs.Seated.{is_kind_at, set_up};
+ghost use Rattle.rewire_work.specs.Seated.{is_kind_at, set_up, put_down, without_seat};
 
 use buffer_pools::ListPool;
 use driver_calls::{AttachFault, FilterCalls};
@@ -111,4 +111,30 @@ pub fn seat(
 {
     seats.push_reserved((f, place));
     pools[place] = pool;
+}
+
+fn detach_one<F: FilterCalls>(filter: &mut F)
+    requires { (F.state filter.old).kept ≡ [] }
+    ensures { F.state filter.new ≡ put_down (F.state filter.old) }
+{
+    filter.detach();
+}
+
+/// Detaches the driver at a place.
+pub fn detach_at<F: FilterCalls>(filters: &mut Vec<F>, place: usize)
+    requires place { place < length filters.old.items }
+    requires kept { (filter_at (map F.state filters.old.items) (Some place)).kept ≡ [] }
+    ensures { map F.state filters.new.items ≡ slice_set (map F.state filters.old.items) place (put_down (filter_at (map F.state filters.old.items) (Some place))) }
+{
+    detach_one(&mut filters[place]);
+}
+
+/// A filter gets up from its place, which goes to the shelf's end.
+pub fn rise(seats: &mut Vec<(u64, usize)>, shelf: &mut Vec<usize>, f: u64, place: usize)
+    requires { vec_len shelf.old < vec_capacity shelf.old }
+    ensures seats { seats.new.items ≡ without_seat f seats.old.items }
+    ensures shelf { shelf.new.items ≡ shelf.old.items ++ place ∷ [] }
+{
+    seats.retain(|seat| seat.0 != f);
+    shelf.push_reserved(place);
 }
