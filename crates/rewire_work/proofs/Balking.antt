@@ -20,7 +20,7 @@ use Rattle.rewire_work.proofs.Sitting.{filter_other}
 pub stands_took : {net : Net} {queue : List Carried} {held : HeldView} (place : ℕ) (s : FilterState) → Stands net queue held [] → lists net.things ≡ [] → net.phase ≡ phase.Paused → IsOnShelf held place → IsResting s
     → Stands net queue (took_state held place s) []
 stands_took {net} {queue} {held} place s b none paused on rests =
-    stands_reseated net net queue held new b none (record { head = refl; bindings = refl; things = refl; next = refl })
+    stands_reseated net net queue held (took_state held place s) b none (record { head = refl; bindings = refl; things = refl; next = refl })
     (record { miniport_kind = refl; miniport_kept = refl; miniport_pool = refl; protocol_kinds = λ i. refl; protocols_kept = λ i. refl; protocols = refl; protocol_pools = refl })
     (record {
       kept = λ g. ap (λ (x : FilterState). x.kept) (filter_other held.filters place s (seat_of held.seats g) (on.vacant g)) ∙ kept_none net (hands_of queue held []) b.agrees none (Filter g);
@@ -28,24 +28,21 @@ stands_took {net} {queue} {held} place s b none paused on rests =
       pools = λ g i. b.pools (Filter g) i;
       seated = λ g a e. other_seat a (b.seated g a e);
       places = λ g q e. place_still q (b.places g q e);
-      shelved = All-weaker (IsOnShelf held) (IsOnShelf new) (λ q o. record { is = place_still q o.is; vacant = o.vacant }) held.shelf b.shelved;
+      shelved = All-weaker (IsOnShelf held) (IsOnShelf (took_state held place s)) (λ q o. record { is = place_still q o.is; vacant = o.vacant }) held.shelf b.shelved;
       apart = b.apart;
       resting = λ q vacant. resting_by q vacant (cases_eq q place);
     })
-    (subst (DriversFit net.head.port new) (sym paused) drivers)
+    (subst (DriversFit net.head.port (took_state held place s)) (sym paused) drivers)
   where
-    abbrev new : HeldView
-    new = took_state held place s
-
     drivers : DriversFit net.head.port held phase.Paused
     drivers = subst (DriversFit net.head.port held) paused b.drivers
 
-    place_still : (q : ℕ) → IsPlace held q → IsPlace new q
+    place_still : (q : ℕ) → IsPlace held q → IsPlace (took_state held place s) q
     place_still q p = record { driver = subst (λ n. q < n) (sym (length-set held.filters place s)) p.driver; pool = p.pool }
 
-    other_seat : (a : Attached) → IsSeated held a → IsSeated new a
+    other_seat : (a : Attached) → IsSeated held a → IsSeated (took_state held place s) a
     other_seat a was =
-        let same : filter_at new.filters (Some was.place) ≡ filter_at held.filters (Some was.place) = filter_other held.filters place s (Some was.place) (λ e. on.vacant a.filter (was.seat ∙ e)) in
+        let same : filter_at (slice_set held.filters place s) (Some was.place) ≡ filter_at held.filters (Some was.place) = filter_other held.filters place s (Some was.place) (λ e. on.vacant a.filter (was.seat ∙ e)) in
         record {
           place = was.place;
           seat = was.seat;
@@ -53,8 +50,8 @@ stands_took {net} {queue} {held} place s b none paused on rests =
           setup = ap (λ (x : FilterState). x.setup) same ∙ was.setup;
         }
 
-    resting_by : (q : ℕ) → IsVacant held.seats q → (q ≡ place) ⊎ (q ≡ place → ⊥) → IsResting (filter_at new.filters (Some q))
-    resting_by q vacant (inl e) = subst IsResting (sym (ap (λ k. filter_at new.filters (Some k)) e ∙ get_or-set_same held.filters place s no_filter on.is.driver)) rests
+    resting_by : (q : ℕ) → IsVacant held.seats q → (q ≡ place) ⊎ (q ≡ place → ⊥) → IsResting (filter_at (slice_set held.filters place s) (Some q))
+    resting_by q vacant (inl e) = subst IsResting (sym (ap (λ k. filter_at (slice_set held.filters place s) (Some k)) e ∙ get_or-set_same held.filters place s no_filter on.is.driver)) rests
     resting_by q vacant (inr ne) = subst IsResting (sym (get_or-set_other held.filters place q s no_filter ne)) (b.resting q vacant)
 
 -- what a driver counted and logged is the same at each place

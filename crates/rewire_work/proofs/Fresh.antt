@@ -10,6 +10,7 @@ use Rattle.ndis_base.specs.declared.ModuleState.TheVariants as state
 use Rattle.journal_types.specs.declared.Event.{Event}
 use Rattle.journal_types.specs.declared.Event.TheVariants as event
 use Rattle.journal_types.specs.declared.PhaseOf.TheVariants as of
+use Rattle.journal_types.specs.declared.Refusal.TheVariants as refusal
 use Rattle.journal_types.specs.declared.Reply.{Reply}
 use Rattle.journal_types.specs.declared.Reply.TheVariants as reply
 use Rattle.journal_types.specs.declared.Row.{Row}
@@ -20,7 +21,7 @@ use Rattle.journal_types.specs.declared.Turn.{Turn}
 use Rattle.stack_rules.specs.declared.Choice.{Choice}
 use Rattle.stack_rules.specs.Tests.{phase_is_paused}
 use Rattle.stack_rules.specs.Net.{Net, start, after, after_rows, after_turn, after_turns, seen, filter_after}
-use Rattle.stack_rules.specs.Outcome.{Outcome, max_filters}
+use Rattle.stack_rules.specs.Outcome.{Outcome, refused, max_filters}
 use Rattle.stack_rules.specs.Pauses.{live_items}
 use Rattle.stack_rules.specs.Rewires.{is_in, is_bad_position, insert_outcome, replace_outcome}
 use Rattle.stack_rules.specs.Sound.{outcome, Next, SoundFrom, Sound}
@@ -72,13 +73,13 @@ below_insert kinds net kind position setup c =
     let K : Outcome → Type 0 = KeepsBelow kinds net e in
     by_test K (phase_is_paused net.phase) _ _
     (λ _. by_test K (live_items net == 0) _ _
-    (λ _. by_test K (length net.modules.order == max_filters net.head) _ _ (λ _. same_below kinds net e _ refl (λ s. refl))
-    (λ _. by_test K (is_bad_position net position) _ _ (λ _. same_below kinds net e _ refl (λ s. refl))
-    (λ _. by_test K c.shelf_empty _ _ (λ _. same_below kinds net e _ refl (λ s. refl))
-    (λ _. by_test K c.refuses _ _ (λ _. same_below kinds net e _ refl (λ s. refl))
+    (λ _. by_test K (length net.modules.order == max_filters net.head) _ _ (λ _. same_below kinds net e (refused refusal.Full) refl (λ s. refl))
+    (λ _. by_test K (is_bad_position net position) _ _ (λ _. same_below kinds net e (refused refusal.BadPosition) refl (λ s. refl))
+    (λ _. by_test K c.shelf_empty _ _ (λ _. same_below kinds net e (refused refusal.ShelfEmpty) refl (λ s. refl))
+    (λ _. by_test K c.refuses _ _ (λ _. same_below kinds net e (refused refusal.AttachRefused) refl (λ s. refl))
     (λ _. λ shelf h. taken_below net.next.filter (net.next.filter + 1) net.next.filter shelf (find (is_of_kind kind kinds) shelf.places) (omega arith) (omega arith) h)))))
-    (λ _. same_below kinds net e _ refl (λ s. refl)))
-    (λ _. same_below kinds net e _ refl (λ s. refl))
+    (λ _. same_below kinds net e (refused (refusal.Busy (live_items net))) refl (λ s. refl)))
+    (λ _. same_below kinds net e (refused refusal.NotPaused) refl (λ s. refl))
 
 below_replace : (kinds : List FilterKind) (net : Net) (old : ℕ) (kind : FilterKind) (setup : Setup) (c : Choice) → KeepsBelow kinds net (event.Replace old kind setup) (replace_outcome net old c)
 unfolding KeepsBelow
@@ -88,12 +89,12 @@ below_replace kinds net old kind setup c =
     by_test K (phase_is_paused net.phase) _ _
     (λ _. by_test K (live_items net == 0) _ _
     (λ _. by_test K (is_in old net.modules.order) _ _
-    (λ _. by_test K c.shelf_empty _ _ (λ _. same_below kinds net e _ refl (λ s. refl))
-    (λ _. by_test K c.refuses _ _ (λ _. same_below kinds net e _ refl (λ s. refl))
+    (λ _. by_test K c.shelf_empty _ _ (λ _. same_below kinds net e (refused refusal.ShelfEmpty) refl (λ s. refl))
+    (λ _. by_test K c.refuses _ _ (λ _. same_below kinds net e (refused refusal.AttachRefused) refl (λ s. refl))
     (λ _. λ shelf h. taken_below net.next.filter (net.next.filter + 1) net.next.filter shelf (find (is_of_kind kind kinds) shelf.places) (omega arith) (omega arith) h)))
-    (λ _. same_below kinds net e _ refl (λ s. refl)))
-    (λ _. same_below kinds net e _ refl (λ s. refl)))
-    (λ _. same_below kinds net e _ refl (λ s. refl))
+    (λ _. same_below kinds net e (refused refusal.NoModule) refl (λ s. refl)))
+    (λ _. same_below kinds net e (refused (refusal.Busy (live_items net))) refl (λ s. refl)))
+    (λ _. same_below kinds net e (refused refusal.NotPaused) refl (λ s. refl))
 
 plain_still : (kinds : List FilterKind) (e : Event) (r : Reply) (shelf : Shelf) → is_plain e ≡ true → shelf_told kinds e r shelf ≡ shelf
 plain_still kinds (event.Insert kind position setup) r shelf p = cc

@@ -61,11 +61,11 @@ pub record IsFound (P : ℕ → Type 0) (test : ℕ → Bool) (x : ℕ) : Type 0
 
 pub found_in : (P : ℕ → Type 0) (test : ℕ → Bool) (xs : List ℕ) (x : ℕ) → All P xs → find test xs ≡ Some x → IsFound P test x
 found_in P test [] x h e = cc
-found_in P test (y ∷ ys) x h e = cases (test y) refl e
+found_in P test (y ∷ ys) x h e = cases (test y) refl e (found_in P test ys x (All-tail P y ys h))
   where
-    cases : (b : Bool) → test y ≡ b → cond b (Some y) (find test ys) ≡ Some x → IsFound P test x
-    cases true t e = let same : y ≡ x = cc in record { all = subst P same (All-head P y ys h); passes = subst (λ z. test z ≡ true) same t }
-    cases false t e = found_in P test ys x (All-tail P y ys h) e
+    cases : (b : Bool) → test y ≡ b → cond b (Some y) (find test ys) ≡ Some x → (find test ys ≡ Some x → IsFound P test x) → IsFound P test x
+    cases true t e rest = let same : y ≡ x = cc in record { all = subst P same (All-head P y ys h); passes = subst (λ z. test z ≡ true) same t }
+    cases false t e rest = rest e
 
 same_kind : (a b : FilterKind) → same_filter_kind a b ≡ true → a ≡ b
 same_kind filter_kind.Pass filter_kind.Pass h = refl

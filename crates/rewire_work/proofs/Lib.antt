@@ -2,11 +2,13 @@ pub mod Balking
 pub mod Begun
 pub mod Causes
 pub mod Counted
+pub mod Done
 pub mod Empty
 pub mod Fresh
 pub mod Inserted
 pub mod Inserting
 pub mod Orders
+pub mod Places
 pub mod Removed
 pub mod Replaced
 pub mod Reseated

@@ -57,26 +57,26 @@ less f entries = filter (λ a. not (a.filter == f)) entries
 
 pub attached_gone : (f : ℕ) (entries : List Attached) → attached f (less f entries) ≡ None
 attached_gone f [] = refl
-attached_gone f (x ∷ entries) = cases (x.filter == f) refl
+attached_gone f (x ∷ entries) = cases (x.filter == f) refl (attached_gone f entries)
   where
-    cases : (b : Bool) → (x.filter == f) ≡ b → attached f (cond (not b) (x ∷ less f entries) (less f entries)) ≡ None
-    cases true t = attached_gone f entries
-    cases false t = cond-false (x.filter == f) (Some x) (attached f (less f entries)) t ∙ attached_gone f entries
+    cases : (b : Bool) → (x.filter == f) ≡ b → attached f (less f entries) ≡ None → attached f (cond (not b) (x ∷ less f entries) (less f entries)) ≡ None
+    cases true t rest = rest
+    cases false t rest = cond-false (x.filter == f) (Some x) (attached f (less f entries)) t ∙ rest
 
 pub attached_less : (g f : ℕ) (entries : List Attached) → (g ≡ f → ⊥) → attached g (less f entries) ≡ attached g entries
 attached_less g f [] ne = refl
-attached_less g f (x ∷ entries) ne = cases (x.filter == f) refl
+attached_less g f (x ∷ entries) ne = cases (x.filter == f) refl (attached_less g f entries ne)
   where
-    cases : (b : Bool) → (x.filter == f) ≡ b → attached g (cond (not b) (x ∷ less f entries) (less f entries)) ≡ cond (x.filter == g) (Some x) (attached g entries)
-    cases true t =
+    cases : (b : Bool) → (x.filter == f) ≡ b → attached g (less f entries) ≡ attached g entries → attached g (cond (not b) (x ∷ less f entries) (less f entries)) ≡ cond (x.filter == g) (Some x) (attached g entries)
+    cases true t rest =
         let at : x.filter ≡ f = grind (arith, nat_tests) in
-        attached_less g f entries ne ∙ sym (cond-false (x.filter == g) (Some x) (attached g entries) (ne_eqb x.filter g (λ e. ne (sym e ∙ at))))
-    cases false t = ap (cond (x.filter == g) (Some x)) (attached_less g f entries ne)
+        rest ∙ sym (cond-false (x.filter == g) (Some x) (attached g entries) (ne_eqb x.filter g (λ e. ne (sym e ∙ at))))
+    cases false t rest = ap (cond (x.filter == g) (Some x)) rest
 
 -- the order without a filter
 pub in_shorter : (g f : ℕ) (fs : List ℕ) → is_in g (filter (λ h. not (h == f)) fs) ≡ true → is_in g fs ≡ true
 in_shorter g f [] h = h
-in_shorter g f (x ∷ fs) h = cases (x == f) h
+in_shorter g f (x ∷ fs) h = cases (x == f) h (in_shorter g f fs)
   where
     more : (a b : Bool) → b ≡ true → (a || b) ≡ true
     more true b h = refl
@@ -86,15 +86,16 @@ in_shorter g f (x ∷ fs) h = cases (x == f) h
     either true b c h k = refl
     either false b c h k = k h
 
-    cases : (b : Bool) → is_in g (cond (not b) (x ∷ filter (λ h. not (h == f)) fs) (filter (λ h. not (h == f)) fs)) ≡ true → ((x == g) || is_in g fs) ≡ true
-    cases true h = more (x == g) (is_in g fs) (in_shorter g f fs h)
-    cases false h = either (x == g) (is_in g (filter (λ h. not (h == f)) fs)) (is_in g fs) h (in_shorter g f fs)
+    cases : (b : Bool) → is_in g (cond (not b) (x ∷ filter (λ h. not (h == f)) fs) (filter (λ h. not (h == f)) fs)) ≡ true
+        → (is_in g (filter (λ h. not (h == f)) fs) ≡ true → is_in g fs ≡ true) → ((x == g) || is_in g fs) ≡ true
+    cases true h rest = more (x == g) (is_in g fs) (rest h)
+    cases false h rest = either (x == g) (is_in g (filter (λ h. not (h == f)) fs)) (is_in g fs) h rest
 
 -- a filter of the order has a number below the next one
 pub in_below : (g n : ℕ) (fs : List ℕ) → AllBelow n fs → is_in g fs ≡ true → g < n
 in_below g n [] h i = cc
-in_below g n (f ∷ fs) h i = cases (f == g) refl i
+in_below g n (f ∷ fs) h i = cases (f == g) refl i (in_below g n fs h.1)
   where
-    cases : (b : Bool) → (f == g) ≡ b → (b || is_in g fs) ≡ true → g < n
-    cases true t i = let same : f ≡ g = grind (arith, nat_tests) in omega (arith, h.0, same)
-    cases false t i = in_below g n fs h.1 i
+    cases : (b : Bool) → (f == g) ≡ b → (b || is_in g fs) ≡ true → (is_in g fs ≡ true → g < n) → g < n
+    cases true t i rest = let same : f ≡ g = grind (arith, nat_tests) in omega (arith, h.0, same)
+    cases false t i rest = rest i

@@ -89,7 +89,7 @@ shelf_balked_replaced old f kind setup place s i r =
 -- the order with another filter in the place of one
 in_swapped : (f n g : ℕ) (fs : List ℕ) → is_in g (map (swapped f n) fs) ≡ true → (g ≡ f) ⊎ (is_in g (insert fs zero n) ≡ true)
 in_swapped f n g [] h = cc
-in_swapped f n g (x ∷ fs) h = cases (x == f) h
+in_swapped f n g (x ∷ fs) h = cases (x == f) h (in_swapped f n g fs)
   where
     later : (a b c : Bool) → (b || c) ≡ true → (b || (a || c)) ≡ true
     later a true c h = refl
@@ -108,17 +108,15 @@ in_swapped f n g (x ∷ fs) h = cases (x == f) h
     keeps (inl e) = inl e
     keeps (inr i) = inr (later (x == g) (n == g) (is_in g fs) i)
 
-    rest : is_in g (map (swapped f n) fs) ≡ true → (g ≡ f) ⊎ (((n == g) || ((x == g) || is_in g fs)) ≡ true)
-    rest i = keeps (in_swapped f n g fs i)
-
     second : (a b c : Bool) → b ≡ true → (a || (b || c)) ≡ true
     second true b c h = refl
     second false true c h = refl
     second false false c h = cc
 
-    cases : (b : Bool) → ((cond b n x == g) || is_in g (map (swapped f n) fs)) ≡ true → (g ≡ f) ⊎ (((n == g) || ((x == g) || is_in g fs)) ≡ true)
-    cases true h = or_later (n == g) (is_in g (map (swapped f n) fs)) ((n == g) || ((x == g) || is_in g fs)) h (λ t. inr (front (n == g) ((x == g) || is_in g fs) t)) rest
-    cases false h = or_later (x == g) (is_in g (map (swapped f n) fs)) ((n == g) || ((x == g) || is_in g fs)) h (λ t. inr (second (n == g) (x == g) (is_in g fs) t)) rest
+    cases : (b : Bool) → ((cond b n x == g) || is_in g (map (swapped f n) fs)) ≡ true → (is_in g (map (swapped f n) fs) ≡ true → (g ≡ f) ⊎ (((n == g) || is_in g fs) ≡ true))
+        → (g ≡ f) ⊎ (((n == g) || ((x == g) || is_in g fs)) ≡ true)
+    cases true h rest = or_later (n == g) (is_in g (map (swapped f n) fs)) ((n == g) || ((x == g) || is_in g fs)) h (λ t. inr (front (n == g) ((x == g) || is_in g fs) t)) (λ i. keeps (rest i))
+    cases false h rest = or_later (x == g) (is_in g (map (swapped f n) fs)) ((n == g) || ((x == g) || is_in g fs)) h (λ t. inr (second (n == g) (x == g) (is_in g fs) t)) (λ i. keeps (rest i))
 
 -- the filters that are attached, once the new one took its two states
 abbrev set_two : ℕ → List Attached → List Attached

@@ -23,21 +23,21 @@ use Rattle.rewire_work.proofs.Sitting.{filter_other, no_place, some_same}
 -- the seats but one
 seat_gone : (f : ℕ) (seats : List (ℕ × ℕ)) → seat_of (without_seat f seats) f ≡ None
 seat_gone f [] = refl
-seat_gone f (x ∷ xs) = cases (x.0 == f) refl
+seat_gone f (x ∷ xs) = cases (x.0 == f) refl (seat_gone f xs)
   where
-    cases : (b : Bool) → (x.0 == f) ≡ b → seat_of (cond (not b) (x ∷ without_seat f xs) (without_seat f xs)) f ≡ None
-    cases true t = seat_gone f xs
-    cases false t = cond-false (x.0 == f) (Some x.1) (seat_of (without_seat f xs) f) t ∙ seat_gone f xs
+    cases : (b : Bool) → (x.0 == f) ≡ b → seat_of (without_seat f xs) f ≡ None → seat_of (cond (not b) (x ∷ without_seat f xs) (without_seat f xs)) f ≡ None
+    cases true t rest = rest
+    cases false t rest = cond-false (x.0 == f) (Some x.1) (seat_of (without_seat f xs) f) t ∙ rest
 
-seat_left : (f g : ℕ) (seats : List (ℕ × ℕ)) → (g ≡ f → ⊥) → seat_of (without_seat f seats) g ≡ seat_of seats g
+pub seat_left : (f g : ℕ) (seats : List (ℕ × ℕ)) → (g ≡ f → ⊥) → seat_of (without_seat f seats) g ≡ seat_of seats g
 seat_left f g [] ne = refl
-seat_left f g (x ∷ xs) ne = cases (x.0 == f) refl
+seat_left f g (x ∷ xs) ne = cases (x.0 == f) refl (seat_left f g xs ne)
   where
-    cases : (b : Bool) → (x.0 == f) ≡ b → seat_of (cond (not b) (x ∷ without_seat f xs) (without_seat f xs)) g ≡ cond (x.0 == g) (Some x.1) (seat_of xs g)
-    cases true t =
+    cases : (b : Bool) → (x.0 == f) ≡ b → seat_of (without_seat f xs) g ≡ seat_of xs g → seat_of (cond (not b) (x ∷ without_seat f xs) (without_seat f xs)) g ≡ cond (x.0 == g) (Some x.1) (seat_of xs g)
+    cases true t rest =
         let at : x.0 ≡ f = grind (arith, nat_tests) in
-        seat_left f g xs ne ∙ sym (cond-false (x.0 == g) (Some x.1) (seat_of xs g) (ne_eqb x.0 g (λ e. ne (sym e ∙ at))))
-    cases false t = ap (cond (x.0 == g) (Some x.1)) (seat_left f g xs ne)
+        rest ∙ sym (cond-false (x.0 == g) (Some x.1) (seat_of xs g) (ne_eqb x.0 g (λ e. ne (sym e ∙ at))))
+    cases false t rest = ap (cond (x.0 == g) (Some x.1)) rest
 
 -- a filter that sits at a place may get up, where its driver rests then
 pub record MayRise (held : HeldView) (f place : ℕ) (s : FilterState) : Type 0 where

@@ -1,5 +1,5 @@
 -- The shelf and the seats after a turn are those that are promised, where they were before it.
-use Rattle.std.proofs.Common.{◌≡◌, ℕ, zero, suc, ◌<◌, ◌==◌, Bool, true, false, cond, List, [], ◌∷◌, ◌++◌, Option, Some, None, option_map, unwrap_or, find, length, map, slice_get, slice_set, refl, sym, ap, ◌∙◌, subst, All, eq-eqb, ne_eqb, ◌⊎◌, inl, inr}
+use Rattle.std.proofs.Common.{◌≡◌, ℕ, zero, suc, ◌<◌, ◌==◌, Bool, true, false, cond, List, [], ◌∷◌, ◌++◌, Option, Some, None, option_map, unwrap_or, find, length, map, slice_get, slice_set, refl, sym, ap, ◌∙◌, subst, All, eq-eqb, ne_eqb, ◌⊎◌, inl, inr, arith}
 use Rattle.std.proofs.Math.Seq.{map-set_same}
 use Rattle.std.proofs.lemmas.Bool.{cond-true, cond-false, cases_eq}
 use Rattle.std.proofs.lemmas.List.Elements.{All-head, All-tail}
@@ -40,9 +40,9 @@ kind_read : (kind : FilterKind) (filters : List FilterState) (place : ℕ) → p
 kind_read kind [] place within = absurd (no_less place within)
   where
     no_less : (n : ℕ) → n < 0 → ⊥
-    no_less n h = omega h
+    no_less n h = omega (arith, h)
 kind_read kind (x ∷ filters) zero within = refl
-kind_read kind (x ∷ filters) (suc place) within = kind_read kind filters place (omega within)
+kind_read kind (x ∷ filters) (suc place) within = kind_read kind filters place (omega (arith, within))
 
 -- the driver that the shelf gives is the one that was found
 pub find_same : (kind : FilterKind) (filters : List FilterState) (shelf : List ℕ) → All (λ place. place < length filters) shelf
@@ -57,20 +57,20 @@ find_same kind filters (p ∷ ps) h =
 -- the drivers with one more
 pub driver_new : (drivers : List (ℕ × ℕ)) (f place : ℕ) → driver_of drivers f ≡ None → driver_of (drivers ++ (f, place) ∷ []) f ≡ Some place
 driver_new [] f place none = ap (λ b. option_map (λ (d : ℕ × ℕ). d.1) (cond b (Some (f, place)) None)) (eq-eqb f f refl)
-driver_new (d ∷ ds) f place none = cases (d.0 == f) none
+driver_new (d ∷ ds) f place none = cases (d.0 == f) none (driver_new ds f place)
   where
-    cases : (b : Bool) → option_map (λ (e : ℕ × ℕ). e.1) (cond b (Some d) (find (λ e. e.0 == f) ds)) ≡ None
+    cases : (b : Bool) → option_map (λ (e : ℕ × ℕ). e.1) (cond b (Some d) (find (λ e. e.0 == f) ds)) ≡ None → (driver_of ds f ≡ None → driver_of (ds ++ (f, place) ∷ []) f ≡ Some place)
         → option_map (λ (e : ℕ × ℕ). e.1) (cond b (Some d) (find (λ e. e.0 == f) (ds ++ (f, place) ∷ []))) ≡ Some place
-    cases true e = cc
-    cases false e = driver_new ds f place e
+    cases true e rest = cc
+    cases false e rest = rest e
 
 pub driver_old : (drivers : List (ℕ × ℕ)) (f place g : ℕ) → (f == g) ≡ false → driver_of (drivers ++ (f, place) ∷ []) g ≡ driver_of drivers g
 driver_old [] f place g other = ap (λ b. option_map (λ (d : ℕ × ℕ). d.1) (cond b (Some (f, place)) None)) other
-driver_old (d ∷ ds) f place g other = cases (d.0 == g)
+driver_old (d ∷ ds) f place g other = cases (d.0 == g) (driver_old ds f place g other)
   where
-    cases : (b : Bool) → option_map (λ (e : ℕ × ℕ). e.1) (cond b (Some d) (find (λ e. e.0 == g) (ds ++ (f, place) ∷ []))) ≡ option_map (λ (e : ℕ × ℕ). e.1) (cond b (Some d) (find (λ e. e.0 == g) ds))
-    cases true = refl
-    cases false = driver_old ds f place g other
+    cases : (b : Bool) → driver_of (ds ++ (f, place) ∷ []) g ≡ driver_of ds g → option_map (λ (e : ℕ × ℕ). e.1) (cond b (Some d) (find (λ e. e.0 == g) (ds ++ (f, place) ∷ []))) ≡ option_map (λ (e : ℕ × ℕ). e.1) (cond b (Some d) (find (λ e. e.0 == g) ds))
+    cases true rest = refl
+    cases false rest = rest
 
 -- an event that tells nothing of filters and writes no row leaves the shelf
 pub follows_still : (old new : BookView) (e : Event) (answer : Reply) → new.tray.rows ≡ [] → new.tray.turns ≡ old.tray.turns → new.tray.net ≡ old.tray.net → new.held.shelf ≡ old.held.shelf → new.held.seats ≡ old.held.seats

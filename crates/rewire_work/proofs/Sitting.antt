@@ -52,11 +52,11 @@ at_place g q place seats e k = some_same q place (seat_of seats g) k e
 -- the seats with one more
 seat_new : (seats : List (ℕ × ℕ)) (f place : ℕ) → seat_of seats f ≡ None → seat_of (seats ++ (f, place) ∷ []) f ≡ Some place
 seat_new [] f place none = cond-true (f == f) (Some place) None (eq-eqb f f refl)
-seat_new (x ∷ xs) f place none = cases (x.0 == f) none
+seat_new (x ∷ xs) f place none = cases (x.0 == f) none (seat_new xs f place)
   where
-    cases : (b : Bool) → cond b (Some x.1) (seat_of xs f) ≡ None → cond b (Some x.1) (seat_of (xs ++ (f, place) ∷ []) f) ≡ Some place
-    cases true e = cc
-    cases false e = seat_new xs f place e
+    cases : (b : Bool) → cond b (Some x.1) (seat_of xs f) ≡ None → (seat_of xs f ≡ None → seat_of (xs ++ (f, place) ∷ []) f ≡ Some place) → cond b (Some x.1) (seat_of (xs ++ (f, place) ∷ []) f) ≡ Some place
+    cases true e rest = cc
+    cases false e rest = rest e
 
 seat_old : (seats : List (ℕ × ℕ)) (f place g : ℕ) → (f == g) ≡ false → seat_of (seats ++ (f, place) ∷ []) g ≡ seat_of seats g
 seat_old [] f place g other = cond-false (f == g) (Some place) None other
@@ -117,14 +117,11 @@ module _ (held : HeldView) (f place : ℕ) (s : FilterState) (pool : PoolView) (
 
   shelved_by : (ps : List ℕ) → All (IsOnShelf held) ps → All (IsOnShelf new) (without_place place ps)
   shelved_by [] h = All-nil (IsOnShelf new)
-  shelved_by (p ∷ ps) h = cases (p == place) refl
+  shelved_by (p ∷ ps) h = cases (p == place) refl (shelved_by ps (All-tail (IsOnShelf held) p ps h))
     where
-      rest : All (IsOnShelf new) (without_place place ps)
-      rest = shelved_by ps (All-tail (IsOnShelf held) p ps h)
-
-      cases : (b : Bool) → (p == place) ≡ b → All (IsOnShelf new) (cond (not b) (p ∷ without_place place ps) (without_place place ps))
-      cases true t = rest
-      cases false t =
+      cases : (b : Bool) → (p == place) ≡ b → All (IsOnShelf new) (without_place place ps) → All (IsOnShelf new) (cond (not b) (p ∷ without_place place ps) (without_place place ps))
+      cases true t rest = rest
+      cases false t rest =
           let was : IsOnShelf held p = All-head (IsOnShelf held) p ps h in
           All-cons (IsOnShelf new) p (without_place place ps) (record { is = place_still p was.is; vacant = λ g e. vacant_by p t was.vacant g e (cases_eq g f) }) rest
 
@@ -189,13 +186,10 @@ module _ (held : HeldView) (f place : ℕ) (s : FilterState) (pool : PoolView) (
 
   pub other_seat : (a : Attached) → (a.filter ≡ f → ⊥) → IsSeated held a → IsSeated new a
   other_seat a ne was =
-      let other : place_is was.place = λ e. may.is.vacant a.filter (was.seat ∙ ap Some e) in
+      let other : was.place ≡ place → ⊥ = λ e. may.is.vacant a.filter (was.seat ∙ ap Some e) in
       record {
         place = was.place;
         seat = there a.filter ne ∙ was.seat;
         kind = ap (λ (x : FilterState). x.kind) (get_or-set_other held.filters place was.place s no_filter other) ∙ was.kind;
         setup = ap (λ (x : FilterState). x.setup) (get_or-set_other held.filters place was.place s no_filter other) ∙ was.setup;
       }
-    where
-      abbrev place_is : ℕ → Type 0
-      place_is q = q ≡ place → ⊥

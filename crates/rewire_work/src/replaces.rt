@@ -27,14 +27,10 @@ use std::alloc::Global;
 
 const MAX_FRAME: usize = 1518;
 
-fn swap_in(order: &mut [u64], old: u64, new: u64)
-    ensures { order.new ≡ map (swapped old new) order.old }
+fn swapped(old: u64, new: u64, f: u64) -> u64
+    ensures { result ≡ swapped old new f }
 {
-    for f in order.iter_mut() {
-        if *f == old {
-            *f = new;
-        }
-    }
+    if f == old { new } else { f }
 }
 
 /// The order with another filter in the place of one.
@@ -46,9 +42,11 @@ fn swapped_order(
 ) -> Result<Vec<u64>, OutOfMemory>
     ensures { IfOk result (λ v. v.items ≡ map (swapped old new) order.now) }
 {
-    let mut swapped = Vec::from_slice(alloc, order)?;
-    swap_in(swapped.as_mut_slice(), old, new);
-    Ok(swapped)
+    let mut other = Vec::new(alloc);
+    for f in order {
+        other.push(swapped(old, new, *f))?;
+    }
+    Ok(other)
 }
 
 /// Attaches the driver at a place of the shelf as the next filter, and detaches another one, whose place in

@@ -1,5 +1,5 @@
 //! The drivers of filters at their places, their seats and their shelf.
-ghost use Rattle.std.specs.Prelude.{◌≡◌, ◌==◌, ◌<◌, ◌∷◌, ◌++◌, [], ℕ, All, Some, OnOk, OnErr, IfErr, length, map, find, slice_set};
+ghost use Rattle.std.specs.Prelude.{◌≡◌, ◌==◌, ◌≤◌, ◌<◌, ◌∷◌, ◌++◌, [], ℕ, All, Some, OnOk, OnErr, IfErr, length, map, find, slice_set};
 ghost use Rattle.std.specs.Vec.{vec_len, vec_capacity};
 ghost use Rattle.promise_rules.specs.Drivers.{same_filter_kind, without_place};
 ghost use Rattle.driver_calls.specs.declared.faults.AttachFault.TheVariants.{Refused, Memory};
@@ -91,7 +91,9 @@ pub fn attach_at<F: FilterCalls>(
 
 /// Takes a place off the shelf.
 pub fn take_off(shelf: &mut Vec<usize>, place: usize)
-    ensures { shelf.new.items ≡ without_place place shelf.old.items }
+    ensures places { shelf.new.items ≡ without_place place shelf.old.items }
+    ensures bound { vec_len shelf.new ≤ vec_len shelf.old }
+    ensures capacity { vec_capacity shelf.new ≡ vec_capacity shelf.old }
 {
     shelf.retain(|other| *other != place);
 }
