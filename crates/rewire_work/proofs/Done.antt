@@ -51,7 +51,7 @@ on_err (Ok a) P Q f p = p
 on_err (Err e) P Q f p = f p
 
 -- with more room, and another literal for the same reply
-done_at : (old : BookView) (t : TrayView) (new v : BookView) (e : Event) (r lit : FlatReply) → Begins old.tray t [] → v ≡ new → r ≡ lit → IsDone (roomed old t) v e lit → IsDone old new e r
+pub done_at : (old : BookView) (t : TrayView) (new v : BookView) (e : Event) (r lit : FlatReply) → Begins old.tray t [] → v ≡ new → r ≡ lit → IsDone (roomed old t) v e lit → IsDone old new e r
 done_at old t new v e r lit g same reply d =
     subst (λ (x : BookView). IsDone old x e r) same
     (subst (IsDone old v e) (sym reply)

@@ -1,12 +1,16 @@
+pub mod Asked
 pub mod Balking
 pub mod Begun
 pub mod Causes
 pub mod Counted
 pub mod Done
+pub mod DoneToo
 pub mod Empty
+pub mod Fitting
 pub mod Fresh
 pub mod Inserted
 pub mod Inserting
+pub mod Made
 pub mod Orders
 pub mod Places
 pub mod Removed

@@ -166,10 +166,10 @@ module _ (old : BookView) (f : ℕ) (kind : FilterKind) (setup : Setup) (place q
   paused = paused_first old.tray.net _ quiet
 
   other : f ≡ n → ⊥
-  other e = below_self n (subst (λ x. x < n) e (in_below f n old.tray.net.modules.order rest.wired.below (is_there old.tray.net f quiet)))
+  other same = below_self n (subst (λ x. x < n) same (in_below f n old.tray.net.modules.order rest.wired.below (is_there old.tray.net f quiet)))
     where
       below_self : (m : ℕ) → m < m → ⊥
-      below_self m h = omega h
+      below_self m h = omega (arith, h)
 
   mid_stands : Stands mid old.tray.queue sat []
   mid_stands = stands_inserted old.tray.net rest kind setup old.held place s (pool_for setup) may_sit first.kind_is refl 1 k.stands paused refl refl

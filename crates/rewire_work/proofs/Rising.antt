@@ -92,15 +92,15 @@ module _ (held : HeldView) (f place : ℕ) (s : FilterState) (may : MayRise held
   resting_by old q vacant (inr ne) =
       subst IsResting (sym (get_or-set_other held.filters place q s no_filter ne)) (old q (λ g e. was_vacant q vacant ne g e (cases_eq g f)))
 
-  pool_by : {net now : Net} → ((g : ℕ) → is_in g net.modules.order ≡ true → IsPoolOf net (Filter g) (held_pool held (Filter g))) → attached f now.modules.filters ≡ None
+  pool_by : (net now : Net) → ((g : ℕ) → is_in g net.modules.order ≡ true → IsPoolOf net (Filter g) (held_pool held (Filter g))) → attached f now.modules.filters ≡ None
       → ((g : ℕ) → (g ≡ f → ⊥) → attached g now.modules.filters ≡ attached g net.modules.filters)
       → (g : ℕ) → (g ≡ f) ⊎ (is_in g net.modules.order ≡ true) → (g ≡ f) ⊎ (g ≡ f → ⊥) → IsPoolOf now (Filter g) (held_pool new (Filter g))
-  pool_by {net} {now} old away others g inside (inl e) = record {
+  pool_by net now old away others g inside (inl e) = record {
     size = ap (λ k. (pool_at held.filter_pools (seat_of new.seats k)).size) e ∙ ap (λ o. (pool_at held.filter_pools o).size) gone ∙ sym (ap pool_in away) ∙ ap (λ k. pool_in (attached k now.modules.filters)) (sym e);
     bytes = ap (λ k. (pool_at held.filter_pools (seat_of new.seats k)).bytes) e ∙ ap (λ o. (pool_at held.filter_pools o).bytes) gone;
   }
-  pool_by {net} {now} old away others g (inl e) (inr ne) = absurd (ne e)
-  pool_by {net} {now} old away others g (inr i) (inr ne) =
+  pool_by net now old away others g (inl e) (inr ne) = absurd (ne e)
+  pool_by net now old away others g (inr i) (inr ne) =
       let p = old g i in
       record {
         size = ap (λ o. (pool_at held.filter_pools o).size) (left g ne) ∙ p.size ∙ ap pool_in (sym (others g ne));
@@ -110,11 +110,11 @@ module _ (held : HeldView) (f place : ℕ) (s : FilterState) (may : MayRise held
   none_there : (a : Attached) (o : Option Attached) → o ≡ None → o ≡ Some a → ⊥
   none_there a o e k = cc
 
-  seat_by : {net now : Net} → ((g : ℕ) (a : Attached) → attached g net.modules.filters ≡ Some a → IsSeated held a) → attached f now.modules.filters ≡ None
+  seat_by : (net now : Net) → ((g : ℕ) (a : Attached) → attached g net.modules.filters ≡ Some a → IsSeated held a) → attached f now.modules.filters ≡ None
       → ((g : ℕ) → (g ≡ f → ⊥) → attached g now.modules.filters ≡ attached g net.modules.filters)
       → (g : ℕ) (a : Attached) → attached g now.modules.filters ≡ Some a → (g ≡ f) ⊎ (g ≡ f → ⊥) → IsSeated new a
-  seat_by {net} {now} old away others g a e (inl same) = absurd (none_there a (attached f now.modules.filters) away (ap (λ k. attached k now.modules.filters) (sym same) ∙ e))
-  seat_by {net} {now} old away others g a e (inr ne) =
+  seat_by net now old away others g a e (inl same) = absurd (none_there a (attached f now.modules.filters) away (ap (λ k. attached k now.modules.filters) (sym same) ∙ e))
+  seat_by net now old away others g a e (inr ne) =
       let there : attached g net.modules.filters ≡ Some a = sym (others g ne) ∙ e in
       let was : IsSeated held a = old g a there in
       let number : a.filter ≡ g = attached-is g net.modules.filters a there in
@@ -134,8 +134,8 @@ module _ (held : HeldView) (f place : ℕ) (s : FilterState) (may : MayRise held
   are_left {net} {now} {queue} b none away others inside = record {
     kept = λ g. kept_by (λ k. kept_none net (hands_of queue held []) b.agrees none (Filter k)) g (cases_eq g f);
     empty = λ g. empty_by (λ k. live_none net (hands_of queue held []) b.agrees none (Filter k)) g (cases_eq g f);
-    pools = λ g i. pool_by {net = net} {now = now} (λ k. b.pools (Filter k)) away others g (inside g i) (cases_eq g f);
-    seated = λ g a e. seat_by {net = net} {now = now} b.seated away others g a e (cases_eq g f);
+    pools = λ g i. pool_by net now (λ k. b.pools (Filter k)) away others g (inside g i) (cases_eq g f);
+    seated = λ g a e. seat_by net now b.seated away others g a e (cases_eq g f);
     places = λ g q e. place_still q (b.places g q (was_seat g q e));
     shelved = All-push (IsOnShelf new) held.shelf place (All-weaker (IsOnShelf held) (IsOnShelf new) shelf_still held.shelf b.shelved)
         (record { is = place_still place may.is; vacant = λ g e. off_place g (was_other g place e) (was_seat g place e) });

@@ -40,10 +40,10 @@ pub record MaySit (held : HeldView) (f place : ℕ) (s : FilterState) (pool : Po
   pub kept : s.kept ≡ []
   pub empty : live_count pool ≡ 0
 
-no_place : (place : ℕ) (o : Option ℕ) → o ≡ None → o ≡ Some place → ⊥
+pub no_place : (place : ℕ) (o : Option ℕ) → o ≡ None → o ≡ Some place → ⊥
 no_place place o e k = cc
 
-some_same : (p q : ℕ) (o : Option ℕ) → o ≡ Some p → o ≡ Some q → p ≡ q
+pub some_same : (p q : ℕ) (o : Option ℕ) → o ≡ Some p → o ≡ Some q → p ≡ q
 some_same p q o e k = cc
 
 at_place : (g q place : ℕ) (seats : List (ℕ × ℕ)) → seat_of seats g ≡ Some place → seat_of seats g ≡ Some q → q ≡ place

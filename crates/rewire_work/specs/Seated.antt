@@ -110,5 +110,5 @@ pub data Replaces (f : ℕ) (kind : FilterKind) (setup : Setup) (place : ℕ) (o
   swaps : (q : ℕ) → seat_of old.held.seats f ≡ Some q → seat_of old.held.seats old.tray.net.next.filter ≡ None
       → r ≡ flat_reply.Replaced old.tray.net.next.filter → new.tray ≡ replaced_tray old.tray f kind setup
       → new.held ≡ reseated old.held f q old.tray.net.next.filter place setup → Replaces f kind setup place old new r
-  balks : (s : FilterState) → r ≡ flat_reply.Refused refusal.AttachRefused → new.tray ≡ old.tray
+  declines : (s : FilterState) → r ≡ flat_reply.Refused refusal.AttachRefused → new.tray ≡ old.tray
       → Refuses (filter_at old.held.filters (Some place)) s → new.held ≡ took_state old.held place s → Replaces f kind setup place old new r

@@ -92,7 +92,7 @@ fn insert_at<M: MiniportCalls, P: ProtocolCalls, F: FilterCalls>(
             seat(&mut book.seats, &mut book.filter_pools, f, place, pool);
             book.tray.tell_inserted(kind, position, setup);
             write_attached(&mut book.tray, f);
-            write_order(&mut book.tray, order.as_slice());
+            write_order(&mut book.tray, &order);
             Ok(FlatReply::Inserted { filter: f })
         }
         Err(AttachFault::Refused) => Ok(FlatReply::Refused(Refusal::AttachRefused)),
