@@ -1,4 +1,5 @@
 pub mod Asked
+pub mod AskedToo
 pub mod Balking
 pub mod Begun
 pub mod Causes

@@ -3,7 +3,9 @@
 
 pub mod inserts;
 pub mod quiet;
+pub mod removes;
 pub mod room;
 pub mod seats;
 
 pub use crate::inserts::insert;
+pub use crate::removes::remove;
