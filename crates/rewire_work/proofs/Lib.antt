@@ -1,4 +1,5 @@
 pub mod Asked
+pub mod AskedThird
 pub mod AskedToo
 pub mod Balking
 pub mod Begun
@@ -12,6 +13,7 @@ pub mod Fresh
 pub mod Inserted
 pub mod Inserting
 pub mod Made
+pub mod MadeToo
 pub mod Orders
 pub mod Places
 pub mod Removed

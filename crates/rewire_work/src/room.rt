@@ -28,6 +28,23 @@ pub fn make_room<T>(tray: &mut Tray, places: &mut Vec<T>) -> Result<(), OutOfMem
     )
 }
 
+/// The same for one more seat and one more place on the shelf.
+pub fn make_rooms(
+    tray: &mut Tray,
+    seats: &mut Vec<(u64, usize)>,
+    shelf: &mut Vec<usize>,
+) -> Result<(), OutOfMemory>
+    ensures tray { IsRoomed tray.old tray.new }
+    ensures seats { seats.new.items ≡ seats.old.items }
+    ensures shelf { shelf.new.items ≡ shelf.old.items }
+    ensures ready { OnOk result (IsReady tray.new) }
+    ensures seat { OnOk result (vec_len seats.new < vec_capacity seats.new) }
+    ensures place { OnOk result (vec_len shelf.new < vec_capacity shelf.new) }
+{
+    shelf.reserve(1)?;
+    make_room(tray, seats)
+}
+
 /// Writes that a filter is attached.
 pub fn write_attached(tray: &mut Tray, f: u64)
     requires number { f + 1 < 2 ^ 64 }
