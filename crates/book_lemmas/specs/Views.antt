@@ -28,9 +28,9 @@ pub record BookView : Type 0 where
   pub tray : TrayView
   pub held : HeldView
 
--- the pool of a module that isn't there has no list
+-- the pool of a module that isn't there has no list, and so no frame of any size
 abbrev pub no_pool : PoolView
-no_pool = record { size = 0; bytes = 0; slots = [] }
+no_pool = record { size = 0; bytes = 1518; slots = [] }
 
 -- a driver that was never called
 abbrev pub never : Record

@@ -32,7 +32,7 @@ pub fn no_pools(alloc: Global, many: usize) -> Result<Vec<ListPool>, OutOfMemory
 {
     let mut pools = Vec::new(alloc);
     for place in 0..many {
-        pools.push(ListPool::make(alloc, 0, 0)?)?;
+        pools.push(ListPool::make(alloc, 0, MAX_FRAME)?)?;
     }
     Ok(pools)
 }

@@ -11,7 +11,7 @@ ghost use Rattle.driver_tray.specs.Tray.{configured, told_to};
 use crate::telling::Telling;
 use crate::tray::Tray;
 use flat_journal::{FlatEvent, FlatReply, FlatRow, SetupNo};
-use journal_types::Event;
+use journal_types::{Event, Setup};
 use ndis_base::{ConfigNo, FilterKind, OutOfMemory};
 use std::alloc::Global;
 
@@ -25,6 +25,14 @@ impl Tray {
         ensures shown { IfOk result (λ e. event_of self.new.payloads e ≡ event.now) }
     {
         self.journal.copy_event(alloc, event)
+    }
+
+    /// A set-up that the journal holds.
+    pub fn setup(&self, setup: SetupNo) -> &Setup
+        requires { SetupWithin self.now.payloads setup }
+        ensures { result.now ≡ setup_at self.now.payloads.setups setup }
+    {
+        self.journal.setup(setup)
     }
 
     /// Writes that the stack has another configuration: its number, and its filters from top to bottom.

@@ -8,6 +8,7 @@ pub mod turns;
 pub mod types;
 
 pub use crate::journal::FlatJournal;
+pub use crate::turns::copied_setup;
 pub use crate::types::{
     FilterSpan, FlatEvent, FlatReply, FlatRow, Room, SetupNo, TurnHead, TurnRef, ValueNo,
 };

@@ -190,7 +190,8 @@ fn copied_program(alloc: Global, program: &Program) -> Result<Program, OutOfMemo
     Ok(Program::of(Vec::from_slice(alloc, program.rules())?))
 }
 
-fn copied_setup(alloc: Global, setup: &Setup) -> Result<Setup, OutOfMemory>
+/// A copy of a filter's set-up.
+pub fn copied_setup(alloc: Global, setup: &Setup) -> Result<Setup, OutOfMemory>
     ensures { IfOk result (λ copy. copy ≡ setup.now) }
 {
     Ok(Setup {

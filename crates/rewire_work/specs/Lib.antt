@@ -1,0 +1,5 @@
+pub mod Refusals
+pub mod Rested
+pub mod Reseated
+pub mod Shelves
+pub mod Seated
