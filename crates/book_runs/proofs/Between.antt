@@ -35,6 +35,8 @@ worked_unasked (event.Ask binding kind code value) w = absurd w
 worked_unasked (event.Status name) w = absurd w
 worked_unasked event.Initialize w = refl
 worked_unasked (event.Insert kind position setup) w = refl
+worked_unasked (event.Remove filter) w = refl
+worked_unasked (event.Replace filter kind setup) w = refl
 worked_unasked (event.Send binding cancel frames) w = refl
 worked_unasked event.Transmit w = refl
 worked_unasked event.Pump w = refl
@@ -42,7 +44,6 @@ worked_unasked event.Drain w = refl
 worked_unasked event.BeginPause w = refl
 worked_unasked event.PauseNext w = refl
 worked_unasked event.RestartNext w = refl
-worked_unasked event.Halt w = refl
 worked_unasked _ w = absurd w
 
 worked_untaken : (e : Event) → IsWorked e → is_take e ≡ false

@@ -16,6 +16,8 @@ use Rattle.book_parts.specs.Events.{IsBook, IsIdle}
 abbrev pub IsWorked : Event → Type 0
 IsWorked event.Initialize = Unit {0}
 IsWorked (event.Insert kind position setup) = Unit {0}
+IsWorked (event.Remove filter) = Unit {0}
+IsWorked (event.Replace filter kind setup) = Unit {0}
 IsWorked (event.Send binding cancel frames) = Unit {0}
 IsWorked event.Transmit = Unit {0}
 IsWorked event.Pump = Unit {0}
@@ -23,7 +25,6 @@ IsWorked event.Drain = Unit {0}
 IsWorked event.BeginPause = Unit {0}
 IsWorked event.PauseNext = Unit {0}
 IsWorked event.RestartNext = Unit {0}
-IsWorked event.Halt = Unit {0}
 IsWorked _ = ⊥
 
 -- a turn was added that may come next, the drivers did what its rows say, and the book is between turns again

@@ -26,7 +26,7 @@ use ndis_base::{ListNo, OutOfMemory, Phase};
 use pause_work::pause_next;
 use phase_work::pauses::begin_pause;
 use pump_work::{drain_away, pump};
-use rewire_work::{halt, insert};
+use rewire_work::{insert, remove, replace};
 use setup_work::{initialize, restart_next};
 use std::alloc::Global;
 
@@ -137,6 +137,12 @@ fn work<M: MiniportCalls, P: ProtocolCalls, F: FilterCalls>(
             position,
             setup,
         } => insert(book, alloc, kind, position, setup),
+        FlatEvent::Remove { filter } => remove(book, alloc, filter),
+        FlatEvent::Replace {
+            filter,
+            kind,
+            setup,
+        } => replace(book, alloc, filter, kind, setup),
         FlatEvent::Send {
             binding,
             cancel,
@@ -148,7 +154,6 @@ fn work<M: MiniportCalls, P: ProtocolCalls, F: FilterCalls>(
         FlatEvent::BeginPause => begin_pause(book),
         FlatEvent::PauseNext => pause_next(book),
         FlatEvent::RestartNext => restart_next(book),
-        FlatEvent::Halt => halt(book),
         _ => unreachable!(),
     }
 }
