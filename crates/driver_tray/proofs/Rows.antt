@@ -23,6 +23,7 @@ use Rattle.flat_journal.specs.Flat.{FlatView}
 use Rattle.flat_journal.specs.Payloads.{Payloads}
 use Rattle.flat_journal.specs.Rooms.{Uses, no_room}
 use Rattle.flat_journal.specs.Shown.{row_of}
+use Rattle.flat_journal.specs.Grows.{Grows}
 use Rattle.flat_journal.proofs.Grown.{grown_by_frames, event_of_same, reply_of_same, event_within_grown, reply_within_grown}
 use Rattle.stack_rules.specs.Net.{Net, start, told, after, after_rows, after_turn, after_turns, seen}
 use Rattle.stack_ledger.specs.Bare.{LedgerView, bare, with_net, with_issued, with_wired, noted}
@@ -115,6 +116,46 @@ within_framed j (Some t) frames w =
 
 pub net_framed : (j : FlatView) (t : Option Telling) (frames : List (List ℕ)) → ToldWithin j.payloads t → net_of (frames_more j frames) t ≡ net_of j t
 net_framed j t frames w = ap (λ told. after_rows (begun_by (seen j.head j.turns) told) j.rows) (told_framed j t frames w)
+
+-- what was told shows as before where payloads are added
+pub told_grown : (p q : Payloads) (t : Option Telling) → Grows p q → ToldWithin p t → told_of q t ≡ told_of p t
+told_grown p q None g w = refl
+told_grown p q (Some t) g w = rw (event_of_same p q g t.event w.0, reply_of_same p q g t.reply w.1) refl
+
+pub within_grown : (p q : Payloads) (t : Option Telling) → Grows p q → ToldWithin p t → ToldWithin q t
+within_grown p q None g w = w
+within_grown p q (Some t) g w = (event_within_grown p q g t.event w.0, reply_within_grown p q g t.reply w.1)
+
+-- the journal with other payloads and other room
+abbrev pub payloads_are : FlatView → Payloads → Room → FlatView
+payloads_are j p room = record j { payloads = p; room = room }
+
+pub journal_grown : (j k : FlatView) → k.head ≡ j.head → k.turns ≡ j.turns → k.rows ≡ j.rows → k ≡ payloads_are j k.payloads k.room
+journal_grown j k h t rs = same_view k j.head j.turns j.rows k.payloads k.room h t rs refl refl
+
+pub net_grown : (j : FlatView) (t : Option Telling) (p : Payloads) (room : Room) → Grows j.payloads p → ToldWithin j.payloads t → net_of (payloads_are j p room) t ≡ net_of j t
+net_grown j t p room g w = ap (λ told. after_rows (begun_by (seen j.head j.turns) told) j.rows) (told_grown j.payloads p t g w)
+
+pub shown_grown : (j : FlatView) (t : Option Telling) (queue : List Carried) (slack : ℕ) (caller : ModuleId) (pool : PoolView) (p : Payloads) (room : Room) → Grows j.payloads p → ToldWithin j.payloads t
+    → shown_of (payloads_are j p room) t queue slack caller pool ≡ record (shown_of j t queue slack caller pool) { payloads = p; room = room }
+shown_grown j t queue slack caller pool p room g w =
+    ap (λ (n : Net). record (shown_of (payloads_are j p room) t queue slack caller pool) { net = n }) (net_grown j t p room g w)
+    ∙ ap (λ (o : Option (Event × Reply)). record (shown_of j t queue slack caller pool) { payloads = p; room = room; told_by = o }) (told_grown j.payloads p t g w)
+
+-- the journal with more filters that a row can show
+abbrev pub filters_more : FlatView → List ℕ → FlatView
+filters_more j filters = payloads_are j (record j.payloads { filters = j.payloads.filters ++ filters }) (record j.room { filters = j.room.filters - length filters })
+
+filters_less : (before left : Room) (many : ℕ) → Uses before left (record no_room { filters = many }) → left ≡ record before { filters = before.filters - many }
+filters_less before left many u =
+    same_room left before.turns before.rows before.frames before.bytes (before.filters - many) before.setups
+    (omega (arith, u.turns)) (omega (arith, u.rows)) (omega (arith, u.frames)) (omega (arith, u.bytes)) (omega (arith, u.filters)) (omega (arith, u.setups))
+
+pub journal_listed : (j k : FlatView) (filters : List ℕ) → k.head ≡ j.head → k.turns ≡ j.turns → k.rows ≡ j.rows → k.payloads ≡ record j.payloads { filters = j.payloads.filters ++ filters }
+    → Uses j.room k.room (record no_room { filters = length filters }) → k ≡ filters_more j filters
+journal_listed j k filters h t rs p u =
+    same_view k j.head j.turns j.rows (record j.payloads { filters = j.payloads.filters ++ filters }) (record j.room { filters = j.room.filters - length filters })
+    h t rs p (filters_less j.room k.room (length filters) u)
 
 -- the rows become a turn
 abbrev pub turn_more : FlatView → Turn → FlatView
