@@ -273,7 +273,7 @@ owner_event old mid new binding k i d r c =
       net = g.net;
       rows = g.rows;
       queue = g.queue;
-      used = record { rows_used = g.used.rows_used; frames = g.used.frames; bytes = g.used.bytes; slack = g.used.slack; turns = g.used.turns };
+      used = record { rows_used = g.used.rows_used; frames = g.used.frames; bytes = g.used.bytes; slack = g.used.slack; turns = g.used.turns; payloads = g.used.payloads };
     }
 
 pub has_come_home : (v : BookView) (t : TrayView) (new : BookView) (binding : ℕ) (l : ListView) (w : PassWay) (to : Target) (status : ListStatus) → IsDoneFor v binding → v.tray ≡ record t { queue = a_list l w to ∷ t.queue } → w ≡ way.Done status

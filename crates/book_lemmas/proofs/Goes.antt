@@ -2,6 +2,7 @@
 use Rattle.std.proofs.Common.{◌≡◌, ℕ, List, [], ◌∷◌, ◌++◌, count_by, flat_map, refl, sym, ap, ◌∙◌, subst, arith, append_assoc, append-nil}
 use Rattle.std.proofs.lemmas.List.{length-append}
 use Rattle.std.proofs.lemmas.List.Sums.{sum_by-append}
+use Rattle.flat_journal.proofs.Grown.{grows_nothing, grows_twice}
 use Rattle.ndis_base.specs.declared.ModuleId.{ModuleId}
 use Rattle.journal_types.specs.declared.Row.{Row}
 use Rattle.journal_store.specs.Sizes.{row_bytes}
@@ -56,7 +57,7 @@ did_then seats a b c net xs ys s t = record {
 }
 
 pub used_none : (t : TrayView) → HasUsed t [] t
-used_none t = record { rows_used = omega arith; frames = omega arith; bytes = omega arith; slack = omega arith; turns = omega arith }
+used_none t = record { rows_used = omega arith; frames = omega arith; bytes = omega arith; slack = omega arith; turns = omega arith; payloads = grows_nothing t.payloads }
 
 pub used_then : (a b c : TrayView) (xs ys : List Row) → HasUsed a xs b → HasUsed b ys c → HasUsed a (xs ++ ys) c
 used_then a b c xs ys g k = record {
@@ -65,6 +66,7 @@ used_then a b c xs ys g k = record {
   bytes = omega (arith, g.bytes, k.bytes, sum_by-append row_bytes xs ys);
   slack = omega (arith, g.slack, k.slack, count_by-append is_way xs ys);
   turns = omega (arith, g.turns, k.turns);
+  payloads = grows_twice a.payloads b.payloads c.payloads g.payloads k.payloads;
 }
 
 pub goes_none : (seats : List (ℕ × ℕ)) (b : BookView) → Goes seats b b []

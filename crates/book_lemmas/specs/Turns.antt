@@ -1,6 +1,7 @@
 -- What a piece of a turn does to a book, and what a whole turn does: one record each, which every function cites and
 -- which grows by fields. `goes_none` and `goes_then` are proved once for each field.
 use Rattle.std.specs.Prelude.{◌≡◌, ℕ, ◌+◌, ◌≤◌, Bool, true, false, List, [], ◌∷◌, ◌++◌, None, length, sum_by, count_by}
+use Rattle.flat_journal.specs.Grows.{Grows}
 use Rattle.journal_types.specs.declared.Asked.{Asked}
 use Rattle.journal_types.specs.declared.Reply.{Reply}
 use Rattle.journal_types.specs.declared.Row.{Row}
@@ -26,13 +27,14 @@ is_way (row.Pass list way to) = true
 is_way (row.Status number name to) = true
 is_way _ = false
 
--- no more room was used than the rows need
+-- no more room was used than the rows need, and what rows refer to was only added to
 pub record HasUsed (before : TrayView) (rows : List Row) (t : TrayView) : Type 0 where
   pub rows_used : before.room.rows ≤ t.room.rows + length rows
   pub frames : before.room.frames ≤ t.room.frames + sum_by row_frames rows
   pub bytes : before.room.bytes ≤ t.room.bytes + sum_by row_bytes rows
   pub slack : before.slack ≤ t.slack + count_by is_way rows
   pub turns : before.room.turns ≤ t.room.turns
+  pub payloads : Grows before.payloads t.payloads
 
 -- these rows were written, nothing else of the journal changed, and the drivers did what the rows say
 pub record Goes (seats : List (ℕ × ℕ)) (old new : BookView) (more : List Row) : Type 0 where

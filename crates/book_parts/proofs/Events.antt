@@ -1,5 +1,7 @@
 -- Where an event of one call begins and where it ends: the book stands again, and the rows are those of the event.
 use Rattle.std.proofs.Common.{◌≡◌, ℕ, ◌≤◌, List, [], ◌++◌, None, length, refl, sym, ap, ◌∙◌, subst, arith, append-nil}
+use Rattle.flat_journal.proofs.Grown.{grows_nothing}
+use Rattle.flat_journal.specs.Grows.{Grows}
 use Rattle.ndis_base.specs.declared.ModuleId.{ModuleId}
 use Rattle.journal_types.specs.declared.Event.{Event}
 use Rattle.journal_types.specs.declared.Reply.{Reply}
@@ -51,6 +53,7 @@ begins_roomed old t same room slack = record {
     bytes = omega (arith, room.bytes);
     slack = omega (arith, slack);
     turns = room.turns;
+    payloads = subst (Grows old.payloads) (sym (ap (λ (x : TrayView). x.payloads) same)) (grows_nothing old.payloads);
   };
 }
 
@@ -63,7 +66,7 @@ begins_called {old} {t} m pool g = record {
   net = g.net;
   rows = g.rows;
   queue = g.queue;
-  used = record { rows_used = g.used.rows_used; frames = g.used.frames; bytes = g.used.bytes; slack = g.used.slack; turns = g.used.turns };
+  used = record { rows_used = g.used.rows_used; frames = g.used.frames; bytes = g.used.bytes; slack = g.used.slack; turns = g.used.turns; payloads = g.used.payloads };
 }
 
 -- the book stands, with what was taken in the hands of the event's function
@@ -115,7 +118,7 @@ did_event old new rows e choice answer k i d reply outcome_is tells =
         told_by = refl;
         net = d.net ∙ ap (λ rs. after_rows old.tray.net rs) (sym all) ∙ ap (λ n. after_rows n new.tray.rows) begun;
         rows = sym (ap (λ rs. rs ++ new.tray.rows) i.rows);
-        used = record { rows_used = used.rows_used; frames = used.frames; bytes = used.bytes; slack = used.slack; turns = used.turns };
+        used = record { rows_used = used.rows_used; frames = used.frames; bytes = used.bytes; slack = used.slack; turns = used.turns; payloads = used.payloads };
         did = subst (λ n. Did old.held.seats old.held new.held n new.tray.rows) begun (subst (λ rs. Did old.held.seats old.held new.held old.tray.net rs) (sym all) d.did);
       };
     }
@@ -133,7 +136,7 @@ ends_call {old} {b} {t} {front} {m} {rows} {calls} {log} {kept} held pool k g i 
       told_by = i.told_by ∙ g.told_by;
       net = i.net ∙ ap (λ n. after_rows n rows) g.net;
       rows_are = i.rows_are ∙ ap (λ rs. rs ++ rows) g.rows;
-      used = record { rows_used = used.rows_used; frames = used.frames; bytes = used.bytes; slack = used.slack; turns = used.turns };
+      used = record { rows_used = used.rows_used; frames = used.frames; bytes = used.bytes; slack = used.slack; turns = used.turns; payloads = used.payloads };
       did = subst (λ (n : Net). Did old.held.seats old.held held n rows) g.net did;
       stands = leaves (begins_stands k g) i c l (subst (λ (n : Net). length held.miniport.kept ≤ n.head.port.ring) (sym g.net) ring);
     }

@@ -1,6 +1,7 @@
 -- What a filter does with a list that it is given: the rows that it writes are those of the rules for what it chose, and
 -- the list is in other hands.
 use Rattle.std.proofs.Common.{◌≡◌, ◌≢◌, ℕ, ◌+◌, ◌==◌, ◌&&◌, Bool, true, false, List, [], ◌∷◌, ◌++◌, Option, Some, None, length, sum_by, refl, sym, ap, ◌∙◌, subst, arith, append_assoc, append-nil, ne_eqb, eq-eqb}
+use Rattle.flat_journal.proofs.Grown.{grown_by_frames}
 use Rattle.ndis_base.specs.declared.ModuleId.{ModuleId}
 use Rattle.ndis_base.specs.declared.ModuleId.TheVariants.{Filter}
 use Rattle.ndis_base.specs.declared.ListStatus.{ListStatus}
@@ -107,7 +108,7 @@ issued_wrote t c pool size bytes = record {
   caller = refl;
   size = size;
   bytes = bytes;
-  used = used_row t (tray.issued (record t { pool = pool }) c.label c.frames) (tray.issue_row c.label c.frames) (omega arith) (omega arith) (omega arith) (omega arith) (omega arith);
+  used = used_row t (tray.issued (record t { pool = pool }) c.label c.frames) (tray.issue_row c.label c.frames) (omega arith) (omega arith) (omega arith) (omega arith) (omega arith) (grown_by_frames t.payloads _ c.frames refl refl refl);
 }
 
 pub in_cloned : {b : TrayView} {h : Hands} {m : ModuleId} {rows : List Row} {calls : List Call} {log : List (List (List ℕ))} {t : TrayView} {loose kept : List ListView} (l : ListView) (was : PassWay) (at : Target) (c : ListView) (frames : List (List ℕ)) (pool : PoolView)

@@ -4,6 +4,8 @@ use Rattle.std.proofs.lemmas.List.Sums.{sum_by-cons}
 use Rattle.std.proofs.lemmas.Bool.{cond-true, cond-false}
 use Rattle.std.proofs.lemmas.Bool.Decides.{nat_tests}
 use Rattle.std.proofs.lemmas.List.Elements.{All-nil, All-cons, All-head, All-tail, All-append, All-push}
+use Rattle.flat_journal.proofs.Grown.{grows_nothing, grown_by_frames}
+use Rattle.flat_journal.specs.Grows.{Grows}
 use Rattle.ndis_base.specs.declared.ModuleId.{ModuleId}
 use Rattle.ndis_base.specs.declared.ModuleId.TheVariants.{Miniport, Filter, Binding}
 use Rattle.ndis_base.specs.declared.ListNo.{ListNo}
@@ -136,8 +138,8 @@ in_still {b} {h} {m} {rows} {calls} {log} {t} {x} r t' x' i w plain now logs agr
 
 -- how much room a row uses
 pub used_row : (t t' : TrayView) (r : Row) → t.room.rows ≤ t'.room.rows + 1 → t.room.frames ≤ t'.room.frames + row_frames r → t.room.bytes ≤ t'.room.bytes + row_bytes r
-    → t.slack ≤ t'.slack + cond (is_way r) 1 0 → t.room.turns ≤ t'.room.turns → HasUsed t (r ∷ []) t'
-used_row t t' r rows frames bytes slack turns =
+    → t.slack ≤ t'.slack + cond (is_way r) 1 0 → t.room.turns ≤ t'.room.turns → Grows t.payloads t'.payloads → HasUsed t (r ∷ []) t'
+used_row t t' r rows frames bytes slack turns payloads =
     let many : length (r ∷ []) ≡ 1 = refl in
     let shown = sum_by-cons row_frames r [] in
     let long = sum_by-cons row_bytes r [] in
@@ -148,6 +150,7 @@ used_row t t' r rows frames bytes slack turns =
       bytes = omega (arith, bytes, long);
       slack = omega (arith, slack, ways);
       turns = turns;
+      payloads = payloads;
     }
 
 -- the tray with one more row, another queue and another pool of the same size
@@ -164,7 +167,7 @@ wrote t r queue slack pool way size bytes = record {
   caller = refl;
   size = size;
   bytes = bytes;
-  used = used_row t (turned t r queue slack pool) r (omega arith) (omega arith) (omega arith) way (omega arith);
+  used = used_row t (turned t r queue slack pool) r (omega arith) (omega arith) (omega arith) way (omega arith) (grows_nothing t.payloads);
 }
 
 -- Rows that move nothing.
@@ -211,7 +214,7 @@ framed_wrote t r frames many long way = record {
   caller = refl;
   size = refl;
   bytes = refl;
-  used = used_row t (tray.written (tray.framed t frames) r) r (omega arith) (omega (arith, many)) (omega (arith, long)) (omega arith) (omega arith);
+  used = used_row t (tray.written (tray.framed t frames) r) r (omega arith) (omega (arith, many)) (omega (arith, long)) (omega arith) (omega arith) (grown_by_frames t.payloads _ frames refl refl refl);
 }
 
 -- the miniport's log is the wire

@@ -23,6 +23,8 @@ use Rattle.buffer_pools.specs.Views.{ListView, PoolView, Issues, Frees}
 use Rattle.agenda_items.specs.declared.Carried.{Carried}
 use Rattle.agenda_items.specs.declared.Carried.TheVariants.{List as a_list, Status as a_status, Answer as an_answer}
 use Rattle.agenda_items.specs.Views.{passed_by}
+use Rattle.driver_tray.specs.declared.on_way.First.{First}
+use Rattle.driver_tray.specs.declared.on_way.First.TheVariants as first
 use Rattle.flat_journal.specs.declared.types.FlatRow.{FlatRow}
 use Rattle.flat_journal.specs.declared.types.FlatRow.TheVariants as flat_row
 use Rattle.flat_journal.specs.declared.types.Room.{Room}
@@ -76,6 +78,13 @@ turn_of t who e r = record { who = who; event = e; reply = r; rows = t.rows }
 -- the rows became a turn
 abbrev pub ended : TrayView → Turn → TrayView
 ended t turn = record t { turns = t.turns ++ turn ∷ []; told_by = None; rows = []; room = record t.room { turns = t.room.turns - 1 } }
+
+-- what is first on its way
+abbrev pub first_way : List Carried → Option First
+first_way [] = None
+first_way (a_list l way to ∷ rest) = Some (first.List way to)
+first_way (a_status s ∷ rest) = Some first.Status
+first_way (an_answer a ∷ rest) = Some first.Answer
 
 -- a status that is on its way
 abbrev pub is_status_away : Carried → Bool

@@ -9,5 +9,6 @@ pub mod telling;
 pub mod tray;
 pub mod turns;
 
+pub use crate::on_way::First;
 pub use crate::telling::Telling;
 pub use crate::tray::Tray;

@@ -54,7 +54,7 @@ begins_first {old} {t} {c} {rest} g e = record {
   net = g.net;
   rows = g.rows;
   queue = g.queue ∙ e;
-  used = record { rows_used = g.used.rows_used; frames = g.used.frames; bytes = g.used.bytes; slack = g.used.slack; turns = g.used.turns };
+  used = record { rows_used = g.used.rows_used; frames = g.used.frames; bytes = g.used.bytes; slack = g.used.slack; turns = g.used.turns; payloads = g.used.payloads };
 }
 
 -- the event is done, and its turn can be ended

@@ -108,7 +108,7 @@ begins_taken {old} {before} {t} {c} r e =
       net = g.net;
       rows = g.rows;
       queue = g.queue;
-      used = record { rows_used = g.used.rows_used; frames = g.used.frames; bytes = g.used.bytes; slack = g.used.slack; turns = g.used.turns };
+      used = record { rows_used = g.used.rows_used; frames = g.used.frames; bytes = g.used.bytes; slack = g.used.slack; turns = g.used.turns; payloads = g.used.payloads };
     }
 
 -- the list that was taken is the one that comes to the miniport

@@ -1,6 +1,7 @@
 -- Rows of phases: they call and log nothing, and the book stands again.
 use Rattle.std.proofs.Common.{◌≡◌, ℕ, ◌≤◌, false, cond, List, [], ◌∷◌, ◌++◌, length, count_by, refl, sym, ap, ◌∙◌, subst, arith, append_assoc, append-nil}
 use Rattle.std.proofs.lemmas.List.Sums.{sum_by-cons}
+use Rattle.flat_journal.proofs.Grown.{grows_nothing}
 use Rattle.ndis_base.specs.declared.ModuleId.{ModuleId}
 use Rattle.ndis_base.specs.declared.ModuleId.TheVariants.{Miniport, Filter, Binding}
 use Rattle.journal_types.specs.declared.Row.{Row}
@@ -39,7 +40,7 @@ quiet_row t r frames bytes way =
     let shown = sum_by-cons row_frames r [] in
     let long = sum_by-cons row_bytes r [] in
     let ways = sum_by-cons (λ q. cond (is_way q) 1 0) r [] in
-    record { rows_used = omega (arith, one); frames = omega (arith, shown); bytes = omega (arith, long); slack = omega (arith, ways); turns = omega arith }
+    record { rows_used = omega (arith, one); frames = omega (arith, shown); bytes = omega (arith, long); slack = omega (arith, ways); turns = omega arith; payloads = grows_nothing t.payloads }
 
 pub has_written : (rows : List Row) (t : TrayView) → ArePhases rows → HasWritten t rows (each_written t rows)
 has_written [] t p = record { net = refl; rows_are = sym (append-nil t.rows); head = refl; turns = refl; told_by = refl; queue = refl; used = used_none t }
@@ -147,7 +148,7 @@ ends_phases {old} {b} held rows t k g w phases l c agrees sized ring drivers =
       told_by = w.told_by ∙ g.told_by;
       net = w.net ∙ ap (λ n. after_rows n rows) g.net;
       rows_are = w.rows_are ∙ ap (λ rs. rs ++ rows) g.rows;
-      used = record { rows_used = used.rows_used; frames = used.frames; bytes = used.bytes; slack = used.slack; turns = used.turns };
+      used = record { rows_used = used.rows_used; frames = used.frames; bytes = used.bytes; slack = used.slack; turns = used.turns; payloads = used.payloads };
       did = subst (λ (n : Net). Did old.held.seats old.held held n rows) g.net (did_nothing old.held.seats old.held held b.net rows (phases_call b.net rows phases) (λ m. phases_log m rows phases) c);
       stands = stands_phases b.net t.net b.queue t.queue old.held held rows (begins_stands k g) l phases w.net agrees sized ring drivers;
     }
