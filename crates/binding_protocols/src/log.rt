@@ -1,9 +1,9 @@
 //! A protocol that logs what is delivered to it.
 ghost use Rattle.std.specs.Prelude.{◌≡◌, [], IfOk};
 ghost use Rattle.ndis_base.specs.declared.ProtocolKind.TheVariants.{Log};
-ghost use Rattle.driver_views.specs.States.{not_called};
 ghost use Rattle.binding_protocols.specs.Protocols.{protocol_of, new_protocol};
 
+use crate::counts::not_called;
 use buffer_pools::BufferList;
 use driver_calls::ProtocolDriver;
 use driver_log::DriverLog;
@@ -12,22 +12,6 @@ use driver_views::Served;
 use frame_arena::FrameSpan;
 use ndis_base::{ListNo, ListStatus, OutOfMemory, ProtocolKind};
 use std::alloc::Global;
-
-/// No call was made yet.
-pub(crate) fn not_called() -> Served
-    ensures { result ≡ not_called }
-{
-    Served {
-        send: 0,
-        send_complete: 0,
-        receive: 0,
-        receive_lent: 0,
-        returned: 0,
-        oid: 0,
-        oid_complete: 0,
-        status: 0,
-    }
-}
 
 /// A log protocol logs each list that is delivered to it and returns it at once.
 #[derive(Drop)]
@@ -80,6 +64,7 @@ impl ProtocolDriver for LogProtocol {
         self.served.send_complete += 1;
     }
 
+    #[tactic(auto, using(crate::proofs::Received::received_plain))]
     fn receive(&mut self, list: BufferList, _span: FrameSpan, tray: &mut Tray) {
         self.served.receive += 1;
         self.log.push(&list);

@@ -7,13 +7,13 @@ use Rattle.ndis_base.specs.declared.Direction.TheVariants as direction
 use Rattle.program_types.specs.Apply.{applied}
 use Rattle.program_types.specs.declared.Rule.{Rule}
 use Rattle.journal_types.specs.declared.Setup.{Setup}
-use Rattle.stack_rules.specs.Tests.{same_frames}
+use Rattle.stack_rules.specs.Tests.{same_frames, is_hold}
 use Rattle.stack_rules.specs.Handled.{program}
 use Rattle.buffer_pools.specs.Views.{ListView}
 use Rattle.driver_views.specs.States.{FilterState}
-use Rattle.driver_tray.specs.Tray.{TrayView, passed_on}
+use Rattle.driver_tray.specs.Tray.{TrayView, passed_on, noted}
 use Rattle.driver_calls.specs.Filters.{made_by, Handles}
-use Rattle.driver_calls.specs.Filters.Handles.{passes}
+use Rattle.driver_calls.specs.Filters.Handles.{passes, holds}
 use Rattle.frame_filters.specs.Filters.{IsEmpty}
 
 -- no rules change nothing
@@ -42,3 +42,10 @@ pub passes_all : (s : FilterState) (p : Setup) (l : ListView) (t : TrayView) (ke
 passes_all s p l t kept' t' e k w =
     let made : made_by p l t ≡ Some l.frames = rw (program_empty p l.label.direction e) (applied_nothing 1518 l.frames) in
     passes l.frames made (same_itself l.frames) k w
+
+-- or it is kept
+pub holds_all : (s : FilterState) (p : Setup) (l : ListView) (t : TrayView) (kept' : List ListView) (t' : TrayView) → is_hold s.kind ≡ true → IsEmpty p → kept' ≡ s.kept ++ l ∷ [] → t' ≡ noted t l.label.number
+    → Handles s p l t kept' t'
+holds_all s p l t kept' t' hold e k w =
+    let made : made_by p l t ≡ Some l.frames = rw (program_empty p l.label.direction e) (applied_nothing 1518 l.frames) in
+    holds l.frames made (same_itself l.frames) hold k w

@@ -1,11 +1,10 @@
 //! A filter that passes every list on.
-ghost use Rattle.std.specs.Prelude.{◌≡◌, [], IfOk};
-ghost use Rattle.std.specs.Option.{ForSome};
+ghost use Rattle.std.specs.Prelude.{◌≡◌, IfOk};
 ghost use Rattle.ndis_base.specs.declared.FilterKind.TheVariants.{Pass};
-ghost use Rattle.frame_filters.specs.Filters.{filter_of, new_filter, IsEmpty};
+ghost use Rattle.frame_filters.specs.Filters.{new_filter};
+ghost use Rattle.frame_filters.specs.States.{plain_state};
 
-use crate::counts::{is_empty, not_called, risen};
-use crate::homes::pass_home;
+use crate::plain::Plain;
 use buffer_pools::BufferList;
 use driver_calls::{AttachFault, FilterDriver};
 use driver_tray::Tray;
@@ -17,10 +16,8 @@ use std::alloc::Global;
 /// A pass filter has no rules and passes every list on. It refuses to attach where it is set up with rules.
 #[derive(Drop)]
 pub struct PassFilter {
-    setup: Option<Setup>,
-    served: Served,
-    refusals: u64,
-    ghost empty: { ForSome setup IsEmpty },
+    core: Plain,
+    ghost is_pass: { core.kind ≡ Pass },
 }
 
 impl PassFilter {
@@ -29,28 +26,26 @@ impl PassFilter {
         ensures { IfOk result (λ f. ⟦<PassFilter as FilterDriver>⟧.state f ≡ new_filter Pass) }
     {
         Ok(PassFilter {
-            setup: None,
-            served: not_called(),
-            refusals: 0,
+            core: Plain::make(FilterKind::Pass),
         })
     }
 }
 
 impl FilterDriver for PassFilter {
-    ghost state = { λ f. filter_of Pass f.setup [] f.served f.refusals };
+    ghost state = { λ f. plain_state f.core };
 
     ghost room = { λ _. 1 };
 
     fn kind(&self) -> FilterKind {
-        FilterKind::Pass
+        self.core.kind
     }
 
     fn served(&self) -> Served {
-        self.served
+        self.core.served
     }
 
     fn refusals(&self) -> u64 {
-        self.refusals
+        self.core.refusals
     }
 
     fn held(&self) -> usize {
@@ -62,37 +57,23 @@ impl FilterDriver for PassFilter {
     }
 
     fn attach(&mut self, _alloc: Global, setup: Setup) -> Result<(), AttachFault> {
-        if is_empty(&setup) {
-            self.setup = Some(setup);
-            Ok(())
-        } else {
-            self.refusals = risen(self.refusals);
-            Err(AttachFault::Refused)
-        }
+        self.core.attach(setup)
     }
 
-    #[tactic(auto, using(crate::proofs::Passing::passes_all))]
     fn send(&mut self, list: BufferList, tray: &mut Tray) {
-        self.served.send += 1;
-        tray.forward(list);
+        self.core.send(list, tray);
     }
 
-    #[tactic(auto, using(crate::proofs::Homes::completes_as))]
     fn send_complete(&mut self, list: BufferList, status: ListStatus, tray: &mut Tray) {
-        self.served.send_complete += 1;
-        pass_home(list, status, tray);
+        self.core.send_complete(list, status, tray);
     }
 
-    #[tactic(auto, using(crate::proofs::Passing::passes_all))]
     fn receive(&mut self, list: BufferList, tray: &mut Tray) {
-        self.served.receive += 1;
-        tray.forward(list);
+        self.core.receive(list, tray);
     }
 
-    #[tactic(auto, using(crate::proofs::Homes::completes_as))]
     fn returned(&mut self, list: BufferList, status: ListStatus, tray: &mut Tray) {
-        self.served.returned += 1;
-        pass_home(list, status, tray);
+        self.core.returned(list, status, tray);
     }
 
     fn cancel(&mut self, _id: u32, _tray: &mut Tray) {}
@@ -104,6 +85,6 @@ impl FilterDriver for PassFilter {
     fn restart(&mut self) {}
 
     fn detach(&mut self) {
-        self.setup = None;
+        self.core.detach();
     }
 }

@@ -36,8 +36,8 @@ takes_at n old after i taken stands is now room =
 
 -- the one that is searched, and the others, in the words of a filter
 pub record IsTaken (kept : List ListView) (n : ℕ) (list : ListView) (after : List ListView) : Type 0 where
-  found : find (has_number n) kept ≡ Some list
-  left : after ≡ without_first n kept
+  pub found : find (has_number n) kept ≡ Some list
+  pub left : after ≡ without_first n kept
 
 pub taken_first : (n : ℕ) (kept front back after : List ListView) (list : ListView) → All (IsOther n) front → kept ≡ front ++ list ∷ back → has_number n list ≡ true → after ≡ front ++ back → IsTaken kept n list after
 taken_first n kept front back after list others is here now = record {

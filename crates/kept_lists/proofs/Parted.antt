@@ -9,9 +9,9 @@ use Rattle.kept_lists.specs.Moves.{Moves}
 
 -- the parts of a list before a place, of which one test keeps some and another the others
 pub record IsParted (goes : ListView → Bool) (all kept leaving : List ListView) (i : ℕ) : Type 0 where
-  stay : kept ≡ drop i all ++ filter (λ l. not (goes l)) (take i all)
-  leave : leaving ≡ filter goes (take i all)
-  within : i ≤ length all
+  pub stay : kept ≡ drop i all ++ filter (λ l. not (goes l)) (take i all)
+  pub leave : leaving ≡ filter goes (take i all)
+  pub within : i ≤ length all
 
 drop_read : (xs : List ListView) (i : ℕ) (first : ListView) (rest done : List ListView) → i < length xs → first ∷ rest ≡ drop i xs ++ done
     → (get_or xs i first ≡ first) × (rest ≡ drop (i + 1) xs ++ done)
@@ -39,7 +39,7 @@ parted_more goes all kept leaving kept' leaving' i h p m =
     let kept_is : kept' ≡ (drop (i + 1) all ++ filter (λ l. not (goes l)) (take i all)) ++ cond (not (goes m.first)) (m.first ∷ []) [] =
         m.stay ∙ ap (λ (xs : List ListView). m.rest ++ xs) (sym (swapped (goes m.first) m.first)) ∙ ap (λ (xs : List ListView). xs ++ cond (not (goes m.first)) (m.first ∷ []) []) rest in
     record {
-      stay = kept_is ∙ append_assoc _ _ _ ∙ ap (λ (xs : List ListView). drop (i + 1) all ++ xs) (sym stays);
+      stay = kept_is ∙ append_assoc (drop (i + 1) all) (filter (λ l. not (goes l)) (take i all)) (cond (not (goes m.first)) (m.first ∷ []) []) ∙ ap (λ (xs : List ListView). drop (i + 1) all ++ xs) (sym stays);
       leave = m.leave ∙ ap (λ (xs : List ListView). xs ++ cond (goes m.first) (m.first ∷ []) []) p.leave ∙ sym goes_on;
       within = omega arith;
     }

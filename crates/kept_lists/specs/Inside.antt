@@ -2,7 +2,7 @@
 use Rattle.std.specs.Prelude.{◌≡◌, ◌+◌, ◌≤◌, []}
 use Rattle.std.specs.VecDeque.{deque_len, deque_capacity}
 use Rattle.kept_lists.specs.Kept.{KeptView}
-use Rattle.kept_lists.specs.declared.KeptLists.TheInside.{Inside}
+use Rattle.kept_lists.specs.declared.kept.KeptLists.TheInside.{Inside}
 
 abbrev pub kept_view : Inside → KeptView
 kept_view k = record { lists = k.kept.items; room = k.room }

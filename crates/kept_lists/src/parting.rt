@@ -1,5 +1,5 @@
 //! Which of the kept lists leave.
-ghost use Rattle.std.specs.Prelude.{◌≡◌, ℕ, ◌+◌, ◌<◌, ◌≤◌, [], not, filter, length};
+ghost use Rattle.std.specs.Prelude.{◌≡◌, ◌&&◌, ◌<◌, ◌≤◌, [], Some, not, filter};
 ghost use Rattle.std.specs.VecDeque.{deque_capacity, deque_len};
 ghost use Rattle.stack_rules.specs.Tests.{is_down, same_number};
 ghost use Rattle.agenda_items.specs.Waits.{waits_at};
@@ -28,6 +28,7 @@ fn is_send_of(list: &BufferList, id: u32) -> bool
 }
 
 fn leaves(tray: &Tray, id: Option<u32>, list: &BufferList) -> bool
+    requires stub { ⊥ }
     ensures { result ≡ leaves tray.now.net id list.now }
 {
     let waits = waits(tray, list.number());

@@ -35,7 +35,9 @@ fn indicate(loops: bool, list: &BufferList, span: FrameSpan, tray: &mut Tray)
     requires slack { 1 ≤ tray.old.slack }
     requires low { tray.old.net.next.list < 2 ^ 60 }
     requires received { tray.old.net.port.received < 2 ^ 60 }
-    ensures { Indicates loops list.now tray.old tray.new }
+    ensures indicates { Indicates loops list.now tray.old tray.new }
+    ensures rows { tray.old.room.rows ≤ tray.new.room.rows + 2 }
+    ensures slack { tray.old.slack ≤ tray.new.slack + 1 }
 {
     if !loops {
         return;
