@@ -10,10 +10,13 @@ use Rattle.journal_types.specs.declared.Event.{Event}
 use Rattle.journal_types.specs.declared.Reply.{Reply}
 use Rattle.journal_types.specs.declared.Row.{Row}
 use Rattle.journal_types.specs.declared.Row.TheVariants as row
+use Rattle.journal_types.specs.declared.PassWay.{PassWay}
+use Rattle.journal_types.specs.declared.Target.{Target}
 use Rattle.journal_types.specs.declared.Turn.{Turn}
 use Rattle.buffer_pools.specs.declared.label.Label.{Label}
-use Rattle.buffer_pools.specs.Views.{PoolView, Fits}
+use Rattle.buffer_pools.specs.Views.{ListView, PoolView, Fits}
 use Rattle.agenda_items.specs.declared.Carried.{Carried}
+use Rattle.agenda_items.specs.declared.Carried.TheVariants.{List as a_list}
 use Rattle.frame_arena.specs.declared.FrameSpan.{FrameSpan}
 use Rattle.frame_arena.specs.Spans.{frames_at, SpanWithin}
 use Rattle.flat_journal.specs.declared.types.FlatRow.{FlatRow}
@@ -29,7 +32,7 @@ use Rattle.stack_rules.specs.Net.{Net, start, told, after, after_rows, after_tur
 use Rattle.stack_ledger.specs.Bare.{LedgerView, bare, with_net, with_issued, with_wired, noted}
 use Rattle.stack_ledger.proofs.Bare.{bare_after}
 use Rattle.driver_tray.specs.declared.telling.Telling.{Telling}
-use Rattle.driver_tray.specs.Tray.{IsSteady, begun_by, ended, written, framed, issue_row}
+use Rattle.driver_tray.specs.Tray.{IsSteady, begun_by, ended, written, framed, issue_row, clone_issued}
 use Rattle.driver_tray.specs.Inside.{told_of, ToldWithin, net_of, shown_of}
 
 pub after_rows-append : (net : Net) (rows : List Row) (r : Row) → after_rows net (rows ++ r ∷ []) ≡ after (after_rows net rows) r
@@ -195,6 +198,14 @@ pub shown_written : (j k : FlatView) (t : Option Telling) (queue : List Carried)
 shown_written j k t queue slack caller pool r e =
     ap (λ (v : FlatView). shown_of v t queue slack caller pool) e
     ∙ ap (λ (n : Net). record (shown_of (row_more j r) t queue slack caller pool) { net = n }) (net_written j t r)
+
+-- and with a clone that was issued and is on its way
+pub shown_cloned : (j k : FlatView) (t : Option Telling) (queue longer : List Carried) (slack : ℕ) (caller : ModuleId) (pool : PoolView) (label : Label) (frames : List (List ℕ)) (l : ListView) (way : PassWay) (to : Target)
+    → k ≡ row_more j (issue_row label frames) → longer ≡ queue ++ a_list l way to ∷ []
+    → shown_of k t longer (slack - 1) caller pool ≡ clone_issued (shown_of j t queue slack caller pool) label frames l way to
+shown_cloned j k t queue longer slack caller pool label frames l way to e f =
+    shown_written j k t longer (slack - 1) caller pool (issue_row label frames) e
+    ∙ ap (λ (items : List Carried). record (written (shown_of j t queue slack caller pool) (issue_row label frames)) { queue = items; slack = slack - 1 }) f
 
 pub shown_framed : (j : FlatView) (t : Option Telling) (queue : List Carried) (slack : ℕ) (caller : ModuleId) (pool : PoolView) (frames : List (List ℕ)) → ToldWithin j.payloads t
     → shown_of (frames_more j frames) t queue slack caller pool ≡ framed (shown_of j t queue slack caller pool) frames

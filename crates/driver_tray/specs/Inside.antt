@@ -15,6 +15,7 @@ use Rattle.stack_ledger.specs.Bare.{bare}
 use Rattle.driver_tray.specs.declared.telling.Telling.{Telling}
 use Rattle.driver_tray.specs.declared.tray.Tray.TheInside.{Inside}
 use Rattle.driver_tray.specs.Tray.{TrayView, begun_by}
+use Rattle.driver_tray.specs.Waits.{HasWaits}
 
 -- what was told, as it shows
 abbrev pub told_of : Payloads → Option Telling → Option (Event × Reply)
@@ -53,3 +54,4 @@ pub record IsTray (t : Inside) : Type 0 where
   pub queue : deque_len t.queue + t.slack ≤ deque_capacity t.queue
   pub ledger : t.ledger.net ≡ bare (net_of t.journal t.told)
   pub within : ToldWithin t.journal.payloads t.told
+  pub waits : HasWaits (net_of t.journal t.told) t.waits t.slack

@@ -1,2 +1,3 @@
 pub mod Tray
 pub mod Inside
+pub mod Waits

@@ -13,6 +13,8 @@ use Rattle.journal_types.specs.declared.Event.{Event}
 use Rattle.journal_types.specs.declared.Reply.{Reply}
 use Rattle.journal_types.specs.declared.Handler.{Handler}
 use Rattle.journal_types.specs.declared.How.{How}
+use Rattle.journal_types.specs.declared.PassWay.{PassWay}
+use Rattle.journal_types.specs.declared.Target.{Target}
 use Rattle.journal_types.specs.declared.PhaseOf.{PhaseOf}
 use Rattle.journal_types.specs.declared.PhaseOf.TheVariants as of
 use Rattle.journal_types.specs.declared.Row.{Row}
@@ -142,6 +144,11 @@ issue_row label frames = row.Issue label.number label.owner label.config label.d
 -- a list was issued
 abbrev pub issued : TrayView → Label → List (List ℕ) → TrayView
 issued t label frames = written (framed t frames) (issue_row label frames)
+
+-- a clone was issued whose frames the journal has, and is behind what is on its way; the row by which it is passed is
+-- still to be written
+abbrev pub clone_issued : TrayView → Label → List (List ℕ) → ListView → PassWay → Target → TrayView
+clone_issued t label frames l way to = record (written t (issue_row label frames)) { queue = t.queue ++ a_list l way to ∷ []; slack = t.slack - 1 }
 
 -- the module that is called was given a list
 abbrev pub given : TrayView → ListNo → Handler → TrayView

@@ -254,9 +254,15 @@ impl Tray {
             origin: Origin::Clone(list.number()),
         };
         let clone = self.pool.issue(label, made)?;
-        self.issue(label, made);
+        let (way, to) = self.onward(&clone);
+        let span = self.hold_frames(made);
+        self.issue_clone(label, list.number(), span, clone, way, to);
         self.keep_note(list.number());
-        self.forward(clone);
+        self.write(FlatRow::Pass {
+            list: label.number,
+            way,
+            to,
+        });
         Ok(())
     }
 }

@@ -3,13 +3,15 @@ ghost use Rattle.std.specs.Prelude.{◌≡◌, ℕ, ◌*◌, ◌+◌, ◌-◌, �
 ghost use Rattle.agenda_items.specs.Views.{kept_as};
 ghost use Rattle.agenda_items.specs.declared.Item.{Item};
 ghost use Rattle.agenda_items.specs.declared.Carried.TheVariants as carried;
-ghost use Rattle.buffer_pools.specs.Views.{Fits};
 ghost use Rattle.journal_types.specs.declared.Row.TheVariants as row;
 ghost use Rattle.frame_arena.specs.Spans.{frames_at, SpanWithin};
 ghost use Rattle.flat_journal.specs.Rooms.{Covers, Uses, no_room};
 ghost use Rattle.flat_journal.specs.Shown.{row_of};
 ghost use Rattle.flat_journal.specs.Within.{RowWithin};
-ghost use Rattle.driver_tray.specs.Tray.{TrayView, IsNew, written, framed, issued, passed, issue_row, IsSteady, IsLow};
+ghost use Rattle.ndis_base.specs.declared.Origin.TheVariants as origin;
+ghost use Rattle.agenda_items.specs.Waits.{waits_at};
+ghost use Rattle.driver_tray.specs.Tray.{TrayView, IsNew, written, framed, passed, issue_row, clone_issued, IsSteady, IsLow};
+ghost use Rattle.driver_tray.specs.Waits.{waits_after};
 
 use crate::telling::Telling;
 use agenda_items::{Carried, Item, dequeue, enqueue};
@@ -17,12 +19,13 @@ use buffer_pools::{BufferList, Label, ListPool};
 use flat_journal::{FlatJournal, FlatRow, Room};
 use frame_arena::FrameSpan;
 use journal_types::{PassWay, StackHead, Target};
-use ndis_base::{Frame, ModuleId, OutOfMemory};
+use ndis_base::{Frame, ListNo, ModuleId, OutOfMemory};
 use stack_ledger::StackLedger;
 use std::alloc::Global;
 use std::collections::VecDeque;
 use std::marker::Model;
 use std::mem;
+use waiting_lists::WaitingLists;
 
 const FAR: u64 = 1 << 60;
 
@@ -34,6 +37,7 @@ pub struct Tray {
     pub(crate) ledger: StackLedger,
     pub(crate) queue: VecDeque<Carried>,
     slack: usize,
+    waits: WaitingLists,
     pub(crate) caller: ModuleId,
     pub(crate) pool: ListPool,
 }
@@ -68,6 +72,36 @@ fn push_list(journal: &mut FlatJournal, list: &BufferList) -> FrameSpan
     journal.span_from(first)
 }
 
+fn write_issue(journal: &mut FlatJournal, label: Label, span: FrameSpan)
+    requires within { SpanWithin journal.old.payloads.frames span }
+    requires room { 1 ≤ journal.old.room.rows }
+    ensures head { journal.new.head ≡ journal.old.head }
+    ensures turns { journal.new.turns ≡ journal.old.turns }
+    ensures rows { journal.new.rows ≡ journal.old.rows ++ issue_row label (frames_at journal.old.payloads.frames span) ∷ [] }
+    ensures payloads { journal.new.payloads ≡ journal.old.payloads }
+    ensures room { Uses journal.old.room journal.new.room (record no_room { rows = 1 }) }
+{
+    journal.write_row(FlatRow::Issue {
+        list: label.number,
+        owner: label.owner,
+        config: label.config,
+        direction: label.direction,
+        cancel: label.cancel,
+        origin: label.origin,
+        frames: span,
+    });
+}
+
+fn follow(waits: &mut WaitingLists, row: FlatRow)
+    ensures { waits.new ≡ waits_after row waits.old }
+{
+    match row {
+        FlatRow::Pass { list, .. } => waits.take_back(list.0),
+        FlatRow::Home { list, .. } => waits.go_home(list.0),
+        _ => {}
+    }
+}
+
 fn is_far(ledger: &StackLedger) -> bool
     ensures { result ≡ false → IsLow ledger.now.net }
 {
@@ -87,6 +121,7 @@ impl Tray {
             ledger,
             queue: VecDeque::new(alloc),
             slack: 0,
+            waits: WaitingLists::make(alloc),
             caller: ModuleId::Miniport,
             pool,
         })
@@ -107,6 +142,7 @@ impl Tray {
         }
         self.journal.make_room(room)?;
         if self.slack < things {
+            self.waits.make_room(things)?;
             self.queue.reserve(things)?;
             self.slack = things;
         }
@@ -121,6 +157,7 @@ impl Tray {
         ensures { self.new ≡ written self.old (row_of self.old.payloads row) }
     {
         self.journal.write_row(row);
+        follow(&mut self.waits, row);
     }
 
     fn enqueue(&mut self, list: BufferList, way: PassWay, to: Target)
@@ -197,8 +234,9 @@ impl Tray {
         push_list(&mut self.journal, list)
     }
 
-    /// Writes the Issue row of a list whose frames the journal has.
-    pub fn issue_held(&mut self, label: Label, span: FrameSpan)
+    /// Writes the Issue row of a list that is no clone, whose frames the journal has.
+    pub(crate) fn issue_held(&mut self, label: Label, span: FrameSpan)
+        requires root { label.origin ≡ origin.Root }
         requires number { label.number.0 ≡ self.old.net.next.list }
         requires low { self.old.net.next.list < 2 ^ 60 }
         requires received { self.old.net.port.received + span.count < 2 ^ 64 }
@@ -206,30 +244,41 @@ impl Tray {
         requires room { 1 ≤ self.old.room.rows }
         ensures { self.new ≡ written self.old (issue_row label (frames_at self.old.payloads.frames span)) }
     {
-        self.journal.write_row(FlatRow::Issue {
-            list: label.number,
-            owner: label.owner,
-            config: label.config,
-            direction: label.direction,
-            cancel: label.cancel,
-            origin: label.origin,
-            frames: span,
-        });
+        write_issue(&mut self.journal, label, span);
         self.ledger.issue(label.owner, span.count);
     }
 
-    /// Writes the Issue row of a list.
-    pub fn issue(&mut self, label: Label, frames: &[Frame])
+    /// Writes the Issue row of a clone whose frames the journal has, and puts the clone behind what is on
+    /// its way. The row by which it is passed is written after it.
+    pub(crate) fn issue_clone(
+        &mut self,
+        label: Label,
+        original: ListNo,
+        span: FrameSpan,
+        clone: BufferList,
+        way: PassWay,
+        to: Target,
+    )
+        requires clone { label.origin ≡ origin.Clone original }
         requires number { label.number.0 ≡ self.old.net.next.list }
         requires low { self.old.net.next.list < 2 ^ 60 }
-        requires received { self.old.net.port.received < 2 ^ 60 }
-        requires fits { Fits frames.now 1518 }
+        requires received { self.old.net.port.received + span.count < 2 ^ 64 }
+        requires within { SpanWithin self.old.payloads.frames span }
         requires room { 1 ≤ self.old.room.rows }
-        requires frame_room { 8 ≤ self.old.room.frames }
-        requires byte_room { 8 * 1518 ≤ self.old.room.bytes }
-        ensures { self.new ≡ issued self.old label frames.now }
+        requires slack { 1 ≤ self.old.slack }
+        ensures { self.new ≡ clone_issued self.old label (frames_at self.old.payloads.frames span) clone way to }
     {
-        let span = self.hold_frames(frames);
-        self.issue_held(label, span);
+        write_issue(&mut self.journal, label, span);
+        self.ledger.issue(label.owner, span.count);
+        self.waits.push_clone(label.number.0, original.0);
+        enqueue(&mut self.queue, clone, way, to);
+        self.slack -= 1;
+    }
+
+    /// Whether a list waits: it has crossed, or a clone of it is live.
+    pub fn waits(&self, list: ListNo) -> bool
+        ensures { result ≡ waits_at self.now.net list.0 }
+    {
+        self.waits.waits(list.0)
     }
 }

@@ -7,6 +7,7 @@ use Rattle.stack_ledger.specs.Bare.{bare}
 use Rattle.driver_tray.specs.Tray.{TrayView, begun_by, turn_of, ended}
 use Rattle.driver_tray.specs.Inside.{net_of, told_of}
 use Rattle.driver_tray.proofs.Rows.{turn_more, journal_ended, net_ended, shown_ended}
+use Rattle.driver_tray.proofs.Waits.{waits_same}
 use Rattle.driver_tray.proofs.tray.Tray.end_turn.Goals as goal
 
 abbrev turn_now : goal.After-self-1 → Turn
@@ -29,6 +30,7 @@ invariant_of-self c = record {
   queue = c.self.invariant.queue;
   ledger = c.self.invariant.ledger ∙ sym (ap bare (net_is c));
   within = tt;
+  waits = waits_same (net_is c) c.self.invariant.waits;
 }
 
 pub returns : goal.returns

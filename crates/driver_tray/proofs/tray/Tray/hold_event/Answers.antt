@@ -4,6 +4,7 @@ use Rattle.stack_ledger.specs.Bare.{bare}
 use Rattle.driver_tray.specs.Tray.{TrayView}
 use Rattle.driver_tray.specs.Inside.{net_of, shown_of, ToldWithin}
 use Rattle.driver_tray.proofs.Rows.{payloads_are, journal_grown, net_grown, within_grown, shown_grown}
+use Rattle.driver_tray.proofs.Waits.{waits_same}
 use Rattle.driver_tray.proofs.tray.Tray.hold_event.Goals as goal
 
 journal_is : (c : goal.After-copy_event) → c.copy_event.new.self ≡ payloads_are c.self.inside.journal c.copy_event.new.self.payloads c.copy_event.new.self.room
@@ -21,6 +22,7 @@ invariant_of-self c = record {
   queue = c.self.invariant.queue;
   ledger = c.self.invariant.ledger ∙ sym (ap bare (net_is c));
   within = within_grown c.self.inside.journal.payloads c.copy_event.new.self.payloads c.self.inside.told c.copy_event.ensures.grows.payloads c.self.invariant.within;
+  waits = waits_same (net_is c) c.self.invariant.waits;
 }
 
 pub returns-clause-same : goal.returns-clause-same

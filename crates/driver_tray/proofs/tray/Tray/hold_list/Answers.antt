@@ -4,6 +4,7 @@ use Rattle.stack_ledger.specs.Bare.{bare}
 use Rattle.driver_tray.specs.Tray.{TrayView, framed}
 use Rattle.driver_tray.specs.Inside.{net_of, shown_of, ToldWithin}
 use Rattle.driver_tray.proofs.Rows.{frames_more, journal_framed, net_framed, within_framed, shown_framed}
+use Rattle.driver_tray.proofs.Waits.{waits_same}
 use Rattle.driver_tray.proofs.tray.Tray.hold_list.Goals as goal
 
 journal_is : (c : goal.After-push_list) → c.push_list.new.journal ≡ frames_more c.self.inside.journal c.args.list.now.frames
@@ -20,6 +21,7 @@ invariant_of-self c = record {
   queue = c.self.invariant.queue;
   ledger = c.self.invariant.ledger ∙ sym (ap bare (net_is c));
   within = subst (λ (v : FlatView). ToldWithin v.payloads c.self.inside.told) (sym (journal_is c)) (within_framed c.self.inside.journal c.self.inside.told c.args.list.now.frames c.self.invariant.within);
+  waits = waits_same (net_is c) c.self.invariant.waits;
 }
 
 pub returns-clause-tray : goal.returns-clause-tray

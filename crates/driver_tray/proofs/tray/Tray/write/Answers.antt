@@ -8,12 +8,13 @@ use Rattle.stack_ledger.specs.Bare.{bare}
 use Rattle.driver_tray.specs.Tray.{TrayView, written}
 use Rattle.driver_tray.specs.Inside.{net_of, ToldWithin}
 use Rattle.driver_tray.proofs.Rows.{steady, row_more, journal_written, net_written, shown_written}
+use Rattle.driver_tray.proofs.Waits.{waits_written}
 use Rattle.driver_tray.proofs.tray.Tray.write.Goals as goal
 
-abbrev row_now : goal.After-write_row → Row
+abbrev row_now : goal.After-follow → Row
 row_now c = row_of c.self.inside.journal.payloads c.args.row
 
-journal_is : (c : goal.After-write_row) → c.write_row.new.self ≡ row_more c.self.inside.journal (row_now c)
+journal_is : (c : goal.After-follow) → c.write_row.new.self ≡ row_more c.self.inside.journal (row_now c)
 journal_is c =
     journal_written c.self.inside.journal c.write_row.new.self (row_now c) c.write_row.ensures.head c.write_row.ensures.turns c.write_row.ensures.rows c.write_row.ensures.payloads c.write_row.ensures.room
 
@@ -25,6 +26,7 @@ invariant_of-self c =
       queue = c.self.invariant.queue;
       ledger = c.self.invariant.ledger ∙ sym (ap bare e ∙ steady net c.self.inside.journal.payloads c.args.row c.requires.steady);
       within = subst (λ (p : Payloads). ToldWithin p c.self.inside.told) (sym c.write_row.ensures.payloads) c.self.invariant.within;
+      waits = waits_written net _ c.self.inside.journal.payloads c.args.row c.self.inside.waits c.follow.new.waits c.self.inside.slack c.requires.steady e c.follow.ensures c.self.invariant.waits;
     }
 
 pub returns : goal.returns

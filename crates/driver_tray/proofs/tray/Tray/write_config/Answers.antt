@@ -9,6 +9,7 @@ use Rattle.stack_rules.specs.Net.{Net, after}
 use Rattle.driver_tray.specs.Tray.{TrayView, written, configured}
 use Rattle.driver_tray.specs.Inside.{net_of, shown_of, ToldWithin}
 use Rattle.driver_tray.proofs.Rows.{row_more, filters_more, journal_listed, journal_written, net_grown, net_written, within_grown, shown_grown, shown_written, ledger_noted}
+use Rattle.driver_tray.proofs.Waits.{waits_same, waits_configured}
 use Rattle.driver_tray.proofs.tray.Tray.write_config.Goals as goal
 
 abbrev row_now : goal.After-configure → Row
@@ -47,6 +48,7 @@ invariant_of-self c = record {
   queue = c.self.invariant.queue;
   ledger = ledger_noted c.self.inside.ledger _ (net_of c.self.inside.journal c.self.inside.told) _ (row_now c) c.self.invariant.ledger c.configure.ensures (net_is c);
   within = subst (λ (v : FlatView). ToldWithin v.payloads c.self.inside.told) (sym (journal_is c)) (within_grown c.self.inside.journal.payloads (mid c).payloads c.self.inside.told (grows c) c.self.invariant.within);
+  waits = waits_same (net_is c) (waits_configured (net_of c.self.inside.journal c.self.inside.told) c.args.config c.args.filters.now c.self.inside.waits c.self.inside.slack c.self.invariant.waits);
 }
 
 pub returns : goal.returns

@@ -7,6 +7,7 @@ use Rattle.stack_rules.specs.Net.{after}
 use Rattle.driver_tray.specs.Tray.{TrayView, written}
 use Rattle.driver_tray.specs.Inside.{net_of, ToldWithin}
 use Rattle.driver_tray.proofs.Rows.{row_more, journal_written, net_written, shown_written, ledger_noted}
+use Rattle.driver_tray.proofs.Waits.{waits_same, waits_phase}
 use Rattle.driver_tray.proofs.tray.Tray.write_phase.Goals as goal
 
 abbrev row_now : goal.After-enter → Row
@@ -24,6 +25,7 @@ invariant_of-self c = record {
   queue = c.self.invariant.queue;
   ledger = ledger_noted c.self.inside.ledger _ (net_of c.self.inside.journal c.self.inside.told) _ (row_now c) c.self.invariant.ledger c.enter.ensures (net_is c);
   within = subst (λ (p : Payloads). ToldWithin p c.self.inside.told) (sym c.write_row.ensures.payloads) c.self.invariant.within;
+  waits = waits_same (net_is c) (waits_phase (net_of c.self.inside.journal c.self.inside.told) c.args.of c.self.inside.waits c.self.inside.slack c.self.invariant.waits);
 }
 
 pub returns : goal.returns
