@@ -1,12 +1,12 @@
 -- The first list of a number among others.
-use Rattle.std.proofs.Common.{◌≡◌, ℕ, suc, ◌+◌, ◌<◌, ◌≤◌, Bool, true, false, cond, List, [], ◌∷◌, ◌++◌, Option, Some, None, length, take, drop, get_or, All, refl, ap, sym, ◌∙◌, arith, add-one}
+use Rattle.std.proofs.Common.{◌≡◌, ℕ, suc, ◌+◌, ◌<◌, true, false, cond, List, [], ◌∷◌, ◌++◌, Some, None, length, take, drop, get_or, All, refl, ap, sym, ◌∙◌, arith}
 use Rattle.std.specs.Prelude.{find, remove}
 use Rattle.std.proofs.lemmas.List.{take-append-drop, drop_more}
-use Rattle.std.proofs.lemmas.List.Elements.{All-head, All-tail, All-more}
+use Rattle.std.proofs.lemmas.List.Elements.{All-head, All-tail}
 use Rattle.buffer_pools.specs.Views.{ListView}
 use Rattle.driver_calls.specs.Filters.{without_first}
 use Rattle.kept_lists.specs.Kept.{KeptView, has_number, IsOther, StandsAt, Takes}
-use Rattle.kept_lists.specs.Kept.Takes.{lacks, takes}
+use Rattle.kept_lists.specs.Kept.Takes.{takes}
 
 -- a search goes on behind lists of other numbers
 pub find_behind : (n : ℕ) (front rest : List ListView) → All (IsOther n) front → find (has_number n) (front ++ rest) ≡ find (has_number n) rest

@@ -1,5 +1,5 @@
 -- The lists that a driver keeps, and which of them it gives away.
-use Rattle.std.specs.Prelude.{◌≡◌, ℕ, ◌==◌, ◌+◌, ◌<◌, Bool, true, false, List, [], ◌∷◌, ◌++◌, Option, Some, None, length, take, slice_index_or, All}
+use Rattle.std.specs.Prelude.{◌≡◌, ℕ, ◌==◌, ◌+◌, ◌<◌, Bool, true, false, List, ◌∷◌, ◌++◌, Option, Some, None, length, take, slice_index_or, All}
 use Rattle.buffer_pools.specs.Views.{ListView}
 use Rattle.stack_rules.specs.Net.{Net}
 use Rattle.driver_calls.specs.Filters.{is_ready, is_cancelled}

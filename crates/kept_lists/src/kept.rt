@@ -145,9 +145,8 @@ impl KeptLists {
         ensures cancels { Cancels self.old.lists id tray.old self.new.lists tray.new }
         ensures all { length self.new.lists + self.new.room ≡ length self.old.lists + self.old.room }
     {
-        let before = self.kept.len();
         part(&mut self.kept, &mut self.leaving, tray, Some(id));
-        self.room += before - self.kept.len();
+        self.room += self.leaving.len();
         turn_back_all(&mut self.leaving, ListStatus::Aborted, tray);
     }
 
@@ -156,9 +155,8 @@ impl KeptLists {
         requires { HasRoomForAll self.old.lists tray.old }
         ensures { PassesAll self.old.lists tray.old self.new.lists tray.new }
     {
-        let before = self.kept.len();
         part(&mut self.kept, &mut self.leaving, tray, None);
-        self.room += before - self.kept.len();
+        self.room += self.leaving.len();
         pass_on_all(&mut self.leaving, tray);
     }
 
@@ -167,9 +165,8 @@ impl KeptLists {
         requires { HasRoomForAll self.old.lists tray.old }
         ensures { ReturnsAll self.old.lists tray.old self.new.lists tray.new }
     {
-        let before = self.kept.len();
         part(&mut self.kept, &mut self.leaving, tray, None);
-        self.room += before - self.kept.len();
+        self.room += self.leaving.len();
         pass_back_all(&mut self.leaving, ListStatus::Success, tray);
     }
 }

@@ -1,22 +1,14 @@
 //! Which of the kept lists leave.
-ghost use Rattle.std.specs.Prelude.{◌≡◌, ◌&&◌, ◌<◌, ◌≤◌, [], Some, not, filter};
+ghost use Rattle.std.specs.Prelude.{◌≡◌, ◌&&◌, ◌+◌, ◌<◌, ◌≤◌, [], Some, not, filter};
 ghost use Rattle.std.specs.VecDeque.{deque_capacity, deque_len};
 ghost use Rattle.stack_rules.specs.Tests.{is_down, same_number};
-ghost use Rattle.agenda_items.specs.Waits.{waits_at};
 ghost use Rattle.kept_lists.specs.Kept.{leaves};
 ghost use Rattle.kept_lists.specs.Moves.{Moves};
 
 use buffer_pools::{BufferList, KeptList};
 use driver_tray::Tray;
-use ndis_base::{Direction, ListNo};
+use ndis_base::Direction;
 use std::collections::VecDeque;
-
-fn waits(_tray: &Tray, _list: ListNo) -> bool
-    requires stub { ⊥ }
-    ensures { result ≡ waits_at _tray.now.net _list.0 }
-{
-    unreachable!()
-}
 
 fn is_send_of(list: &BufferList, id: u32) -> bool
     ensures { result ≡ (is_down list.now.label.direction && same_number list.now.label.cancel (Some id)) }
@@ -28,10 +20,9 @@ fn is_send_of(list: &BufferList, id: u32) -> bool
 }
 
 fn leaves(tray: &Tray, id: Option<u32>, list: &BufferList) -> bool
-    requires stub { ⊥ }
     ensures { result ≡ leaves tray.now.net id list.now }
 {
-    let waits = waits(tray, list.number());
+    let waits = tray.waits(list.number());
     match id {
         Some(id) => !waits && is_send_of(list, id),
         None => !waits,
@@ -48,6 +39,7 @@ fn move_first(
     requires room { deque_len leaving.old < deque_capacity leaving.old }
     requires within { deque_len kept.old ≤ deque_capacity kept.old }
     ensures moves { Moves (leaves tray.now.net id) kept.old.items leaving.old.items kept.new.items leaving.new.items }
+    ensures all { deque_len kept.new + deque_len leaving.new ≡ deque_len kept.old + deque_len leaving.old }
     ensures kept_capacity { deque_capacity kept.new ≡ deque_capacity kept.old }
     ensures leaving_capacity { deque_capacity leaving.new ≡ deque_capacity leaving.old }
 {
@@ -74,6 +66,7 @@ pub(crate) fn part(
     requires room { deque_len kept.old ≤ deque_capacity leaving.old }
     ensures stay { kept.new.items ≡ filter (λ l. not (leaves tray.now.net id l)) kept.old.items }
     ensures leave { leaving.new.items ≡ filter (leaves tray.now.net id) kept.old.items }
+    ensures all { deque_len kept.new + deque_len leaving.new ≡ deque_len kept.old + deque_len leaving.old }
     ensures kept_capacity { deque_capacity kept.new ≡ deque_capacity kept.old }
     ensures leaving_capacity { deque_capacity leaving.new ≡ deque_capacity leaving.old }
 {
