@@ -1,7 +1,7 @@
 -- What the cores of filters show.
 use Rattle.std.specs.Prelude.{[]}
 use Rattle.driver_views.specs.States.{FilterState}
-use Rattle.frame_filters.specs.declared.plain.Plain.{Plain}
+use Rattle.frame_filters.specs.declared.parts.Plain.{Plain}
 use Rattle.frame_filters.specs.Filters.{filter_of}
 
 -- a filter without rules that keeps no list

@@ -4,7 +4,7 @@ ghost use Rattle.ndis_base.specs.declared.FilterKind.TheVariants.{Pass};
 ghost use Rattle.frame_filters.specs.Filters.{new_filter};
 ghost use Rattle.frame_filters.specs.States.{plain_state};
 
-use crate::plain::Plain;
+use crate::parts::Plain;
 use buffer_pools::BufferList;
 use driver_calls::{AttachFault, FilterDriver};
 use driver_tray::Tray;

@@ -1,32 +1,21 @@
 //! Filters without rules that keep no list: every list passes them.
 ghost use Rattle.std.specs.Prelude.{◌≡◌, [], false, None, Some, OnOk, OnErr, IfErr};
-ghost use Rattle.std.specs.Option.{ForSome};
 ghost use Rattle.ndis_base.specs.declared.Direction.TheVariants as direction;
 ghost use Rattle.promise_rules.specs.declared.Called.TheVariants as called;
 ghost use Rattle.stack_rules.specs.Tests.{is_hold};
 ghost use Rattle.driver_calls.specs.declared.faults.AttachFault.TheVariants.{Refused, Memory};
 ghost use Rattle.driver_calls.specs.Filters.{MayHandle, IsHandled, MayComplete, IsCompleted, Refuses};
-ghost use Rattle.frame_filters.specs.Filters.{filter_of, new_filter, IsEmpty};
+ghost use Rattle.frame_filters.specs.Filters.{new_filter};
 ghost use Rattle.frame_filters.specs.States.{plain_state};
 
 use crate::counts::{is_empty, not_called, risen};
 use crate::homes::pass_home;
+use crate::parts::Plain;
 use buffer_pools::BufferList;
 use driver_calls::AttachFault;
 use driver_tray::Tray;
-use driver_views::Served;
 use journal_types::Setup;
 use ndis_base::{FilterKind, ListStatus};
-
-#[derive(Drop)]
-pub struct Plain {
-    pub(crate) kind: FilterKind,
-    pub(crate) setup: Option<Setup>,
-    pub(crate) served: Served,
-    pub(crate) refusals: u64,
-    ghost empty: { ForSome setup IsEmpty },
-    ghost keeps_none: { is_hold kind ≡ false },
-}
 
 impl Plain {
     /// On the shelf, and never called.

@@ -1,115 +1,81 @@
 //! An adapter with a transmit ring.
 ghost use Rattle.std.specs.Prelude.{◌≡◌, IfOk};
-ghost use Rattle.std.specs.Option.{ForSome};
 ghost use Rattle.ndis_base.specs.declared.MiniportKind.TheVariants.{Ring};
-ghost use Rattle.ring_adapters.specs.Rings.{adapter_of, new_adapter, IsRing};
+ghost use Rattle.ring_adapters.specs.Rings.{new_adapter};
+ghost use Rattle.ring_adapters.specs.States.{core_state};
 
-use crate::counts::{not_called, risen};
-use crate::wires::{cross, enqueue};
+use crate::parts::Core;
 use buffer_pools::BufferList;
 use driver_calls::{AttachFault, MiniportDriver};
-use driver_log::DriverLog;
 use driver_tray::Tray;
 use driver_views::Served;
 use journal_types::PortSetup;
-use kept_lists::KeptLists;
 use ndis_base::{ListNo, ListStatus, MiniportKind, OutOfMemory};
 use std::alloc::Global;
 
-/// A ring adapter keeps the lists that it is sent in its ring, and turns a list back where the ring is
-/// full. Told to transmit, it puts its oldest list onto the wire, which is its log.
+/// A ring adapter keeps the lists that it is sent in its ring, and turns a list back where the ring is full. Told to
+/// transmit, it puts its oldest list onto the wire, which is its log.
 #[derive(Drop)]
 pub struct RingAdapter {
-    to_refuse: u64,
-    port: Option<PortSetup>,
-    served: Served,
-    refusals: u64,
-    ring: KeptLists,
-    log: DriverLog,
-    ghost sized: { ForSome port (IsRing ring) },
+    core: Core,
+    ghost is_ring: { core.kind ≡ Ring },
 }
 
 impl RingAdapter {
-    /// An adapter that is halted and was never called: it keeps nothing, and its log is empty. It refuses
-    /// just its first `refuse_first` initialisations. It takes no memory.
+    /// An adapter that is halted and was never called: it keeps nothing, and its log is empty. It refuses just its
+    /// first `refuse_first` initialisations. It takes no memory.
     pub fn make(alloc: Global, refuse_first: u64) -> Result<RingAdapter, OutOfMemory>
         ensures { IfOk result (λ a. ⟦<RingAdapter as MiniportDriver>⟧.state a ≡ new_adapter Ring) }
     {
         Ok(RingAdapter {
-            to_refuse: refuse_first,
-            port: None,
-            served: not_called(),
-            refusals: 0,
-            ring: KeptLists::empty(alloc),
-            log: DriverLog::make(alloc),
+            core: Core::make(alloc, MiniportKind::Ring, refuse_first),
         })
     }
 }
 
 impl MiniportDriver for RingAdapter {
-    ghost state = { λ a. adapter_of Ring a.port a.ring a.served a.log a.refusals };
+    ghost state = { λ a. core_state a.core };
 
-    ghost room = { λ a. a.log.room };
+    ghost room = { λ a. a.core.log.room };
 
     fn kind(&self) -> MiniportKind {
-        MiniportKind::Ring
+        self.core.kind
     }
 
     fn served(&self) -> Served {
-        self.served
+        self.core.served
     }
 
     fn refusals(&self) -> u64 {
-        self.refusals
+        self.core.refusals
     }
 
     fn held(&self) -> usize {
-        self.ring.len()
+        self.core.ring.len()
     }
 
     fn make_room(&mut self, _max: usize) -> Result<(), OutOfMemory> {
-        self.log.make_room()
+        self.core.log.make_room()
     }
 
     fn initialize(&mut self, alloc: Global, setup: PortSetup) -> Result<(), AttachFault> {
-        if self.to_refuse > 0 {
-            self.to_refuse -= 1;
-            self.refusals = risen(self.refusals);
-            return Err(AttachFault::Refused);
-        }
-        match KeptLists::make(alloc, setup.ring) {
-            Ok(ring) => {
-                self.ring = ring;
-                self.port = Some(setup);
-                Ok(())
-            }
-            Err(OutOfMemory) => Err(AttachFault::Memory),
-        }
+        self.core.initialize(alloc, setup)
     }
 
     fn send(&mut self, list: BufferList, tray: &mut Tray) {
-        self.served.send += 1;
-        enqueue(&mut self.ring, list, tray);
+        self.core.send(list, tray);
     }
 
     fn returned(&mut self, list: BufferList, status: ListStatus, tray: &mut Tray) {
-        self.served.returned += 1;
-        tray.spend(list, status);
+        self.core.returned(list, status, tray);
     }
 
     fn cancel(&mut self, id: u32, tray: &mut Tray) {
-        self.ring.cancel(id, tray);
+        self.core.cancel(id, tray);
     }
 
-    fn transmit(&mut self, _running: bool, tray: &mut Tray) -> Option<ListNo> {
-        match self.ring.take_first() {
-            Some(list) => {
-                let number = list.number();
-                cross(&mut self.log, list, false, tray);
-                Some(number)
-            }
-            None => None,
-        }
+    fn transmit(&mut self, running: bool, tray: &mut Tray) -> Option<ListNo> {
+        self.core.transmit(running, tray)
     }
 
     fn pause(&mut self) {}
@@ -117,14 +83,14 @@ impl MiniportDriver for RingAdapter {
     fn restart(&mut self) {}
 
     fn halt(&mut self) {
-        self.port = None;
+        self.core.halt();
     }
 
     fn logged(&self) -> usize {
-        self.log.len()
+        self.core.log.len()
     }
 
     fn log_frame(&self, list: usize, buffer: usize) -> &[u8] {
-        self.log.frame(list, buffer)
+        self.core.log.frame(list, buffer)
     }
 }
