@@ -9,7 +9,7 @@ use journal_types::Setup;
 use program_types::Program;
 
 /// No call was made yet.
-pub(crate) fn not_called() -> Served
+pub fn not_called() -> Served
     ensures { result ≡ not_called }
 {
     Served {
@@ -25,7 +25,7 @@ pub(crate) fn not_called() -> Served
 }
 
 /// One more; the last number stays.
-pub(crate) fn risen(count: u64) -> u64
+pub fn risen(count: u64) -> u64
     ensures { IsRisen count result }
 {
     if count < u64::MAX { count + 1 } else { count }

@@ -27,12 +27,7 @@ fn take_original(kept: &mut KeptLists, origin: Origin) -> Option<BufferList>
 /// A filter passes another module's list homewards. Where a clone of its own is home, the list that it kept goes
 /// homewards in its place.
 #[tactic(auto, using(crate::proofs::Taken::homes_original, crate::proofs::Taken::homes_alone))]
-pub(crate) fn take_home(
-    kept: &mut KeptLists,
-    list: BufferList,
-    status: ListStatus,
-    tray: &mut Tray,
-)
+pub fn take_home(kept: &mut KeptLists, list: BufferList, status: ListStatus, tray: &mut Tray)
     requires own { list.label.owner ≡ tray.old.caller → IsOf tray.old.pool list }
     requires room { HasRoomFor 2 1 tray.old }
     ensures { Completes (keeping kept.old.lists) list status tray.old kept.new.lists tray.new }

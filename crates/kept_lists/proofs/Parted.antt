@@ -33,11 +33,11 @@ parted_more goes all kept leaving kept' leaving' i h p m =
     let here : get_or all i m.first ≡ m.first = read.0 in
     let rest : m.rest ≡ drop (i + 1) all ++ filter (λ l. not (goes l)) (take i all) = read.1 in
     let stays : filter (λ l. not (goes l)) (take (i + 1) all) ≡ filter (λ l. not (goes l)) (take i all) ++ cond (not (goes m.first)) (m.first ∷ []) [] =
-        rw here at (filter_more (λ l. not (goes l)) all i m.first h) in
+    rw here at (filter_more (λ l. not (goes l)) all i m.first h) in
     let goes_on : filter goes (take (i + 1) all) ≡ filter goes (take i all) ++ cond (goes m.first) (m.first ∷ []) [] =
-        rw here at (filter_more goes all i m.first h) in
+    rw here at (filter_more goes all i m.first h) in
     let kept_is : kept' ≡ (drop (i + 1) all ++ filter (λ l. not (goes l)) (take i all)) ++ cond (not (goes m.first)) (m.first ∷ []) [] =
-        m.stay ∙ ap (λ (xs : List ListView). m.rest ++ xs) (sym (swapped (goes m.first) m.first)) ∙ ap (λ (xs : List ListView). xs ++ cond (not (goes m.first)) (m.first ∷ []) []) rest in
+    m.stay ∙ ap (λ (xs : List ListView). m.rest ++ xs) (sym (swapped (goes m.first) m.first)) ∙ ap (λ (xs : List ListView). xs ++ cond (not (goes m.first)) (m.first ∷ []) []) rest in
     record {
       stay = kept_is ∙ append_assoc (drop (i + 1) all) (filter (λ l. not (goes l)) (take i all)) (cond (not (goes m.first)) (m.first ∷ []) []) ∙ ap (λ (xs : List ListView). drop (i + 1) all ++ xs) (sym stays);
       leave = m.leave ∙ ap (λ (xs : List ListView). xs ++ cond (goes m.first) (m.first ∷ []) []) p.leave ∙ sym goes_on;

@@ -1,9 +1,9 @@
 -- What a call of an adapter does, from what happens to its ring and its log.
-use Rattle.std.proofs.Common.{◌≡◌, ℕ, ◌+◌, ◌≤◌, Bool, true, false, ◌&&◌, List, [], ◌∷◌, ◌++◌, Option, Some, None, length, refl, ap, sym, ◌∙◌, arith, subst}
+use Rattle.std.proofs.Common.{◌≡◌, Bool, false, ◌&&◌, List, [], ◌∷◌, ◌++◌, Option, Some, None, length, ap, sym, ◌∙◌, arith, subst}
 use Rattle.std.proofs.lemmas.List.{length-append}
 use Rattle.ndis_base.specs.declared.ListNo.{ListNo}
 use Rattle.journal_types.specs.declared.PortSetup.{PortSetup}
-use Rattle.buffer_pools.specs.Views.{ListView, live_count}
+use Rattle.buffer_pools.specs.Views.{ListView}
 use Rattle.stack_rules.specs.Tests.{is_loop, is_virtual}
 use Rattle.driver_views.specs.States.{MiniportState, logs}
 use Rattle.ndis_base.specs.declared.ListStatus.TheVariants.{Success}
@@ -12,7 +12,7 @@ use Rattle.kept_lists.specs.Kept.{KeptView}
 use Rattle.driver_calls.specs.Miniports.{Queues, Transmits}
 use Rattle.driver_calls.specs.Miniports.Queues.{keeps, fills}
 use Rattle.driver_calls.specs.Miniports.Transmits.{idles, wires, loops}
-use Rattle.ring_adapters.specs.Rings.{IsRing, Enqueues, CanLoop, Indicates, Crosses}
+use Rattle.ring_adapters.specs.Rings.{IsRing, Enqueues, Indicates, Crosses}
 use Rattle.ring_adapters.specs.Rings.Enqueues.{keeps as goes_in, fills as goes_back}
 use Rattle.ring_adapters.specs.Rings.Indicates.{quiet, starts}
 

@@ -1,5 +1,5 @@
 -- Adapters that have a transmit ring.
-use Rattle.std.specs.Prelude.{◌≡◌, ◌≢◌, ℕ, ◌+◌, ◌-◌, ◌*◌, ◌≤◌, ◌<◌, ◌^◌, Bool, true, List, [], ◌∷◌, ◌++◌, Option, None, length}
+use Rattle.std.specs.Prelude.{◌≡◌, ◌≢◌, ℕ, ◌+◌, ◌-◌, ◌*◌, ◌≤◌, ◌<◌, ◌^◌, Bool, true, [], ◌∷◌, ◌++◌, Option, None, length}
 use Rattle.ndis_base.specs.declared.Direction.TheVariants as direction
 use Rattle.ndis_base.specs.declared.ListStatus.TheVariants.{Success, Resources}
 use Rattle.ndis_base.specs.declared.MiniportKind.{MiniportKind}

@@ -24,7 +24,7 @@ pub returns : goal.returns
 returns c =
     let all = c.push_list-span.new.frames.frames in
     let entries : map (frames_at all) c.push_reserved.new.self.items ≡ map (frames_at c.self.inside.frames.frames) c.self.inside.spans.items ++ c.args.list.now.frames ∷ [] =
-        ap (map (frames_at all)) c.push_reserved.ensures.items
-        ∙ entries_added c.self.inside.frames.frames c.args.list.now.frames all c.self.inside.spans.items c.push_list-span.result c.self.invariant.within c.push_list-span.ensures.frames c.push_list-span.ensures.shown in
+    ap (map (frames_at all)) c.push_reserved.ensures.items
+    ∙ entries_added c.self.inside.frames.frames c.args.list.now.frames all c.self.inside.spans.items c.push_list-span.result c.self.invariant.within c.push_list-span.ensures.frames c.push_list-span.ensures.shown in
     ap (λ (e : List (List (List ℕ))). log_of e (c.self.inside.room - 1)) entries
     ∙ ap (log_more c.args.list.now.frames) c.self.view_is

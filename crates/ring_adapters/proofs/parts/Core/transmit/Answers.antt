@@ -1,4 +1,4 @@
-use Rattle.std.proofs.Common.{◌≡◌, Some, refl, sym, ap}
+use Rattle.std.proofs.Common.{Some, refl, sym, ap}
 use Rattle.ndis_base.specs.declared.ListNo.{ListNo}
 use Rattle.driver_log.specs.Log.{LogView}
 use Rattle.kept_lists.specs.Kept.{TakesFirst}

@@ -1,0 +1,3 @@
+pub mod Making
+pub mod Ruled
+pub mod Treats
