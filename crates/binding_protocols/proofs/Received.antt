@@ -1,5 +1,5 @@
 -- What a delivery does, from what is done with the list.
-use Rattle.std.proofs.Common.{◌≡◌, true, false, List, [], ◌∷◌, ◌++◌, refl}
+use Rattle.std.proofs.Common.{◌≡◌, true, false, [], ◌∷◌, ◌++◌, refl}
 use Rattle.ndis_base.specs.declared.ListStatus.TheVariants.{Success}
 use Rattle.buffer_pools.specs.Views.{ListView}
 use Rattle.stack_rules.specs.Tests.{is_echo, is_retain}

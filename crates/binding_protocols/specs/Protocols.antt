@@ -1,5 +1,5 @@
 -- Protocols that log what is delivered to them.
-use Rattle.std.specs.Prelude.{◌≡◌, ◌≢◌, ℕ, [], List, Bool, false, None}
+use Rattle.std.specs.Prelude.{◌≡◌, ◌≢◌, [], List, Bool, false, None}
 use Rattle.ndis_base.specs.declared.Direction.TheVariants as direction
 use Rattle.ndis_base.specs.declared.ProtocolKind.{ProtocolKind}
 use Rattle.buffer_pools.specs.Views.{ListView, live_count}

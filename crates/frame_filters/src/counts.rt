@@ -1,5 +1,5 @@
 //! What each filter counts.
-ghost use Rattle.std.specs.Prelude.{◌≡◌, [], true, ◌×◌};
+ghost use Rattle.std.specs.Prelude.{◌≡◌, ◌↔◌, [], true};
 ghost use Rattle.driver_views.specs.States.{not_called};
 ghost use Rattle.driver_calls.specs.Rooms.{IsRisen};
 ghost use Rattle.frame_filters.specs.Filters.{IsEmpty};

@@ -2,11 +2,12 @@
 use Rattle.std.proofs.Common.{◌≡◌, ◌≢◌, ℕ, ◌+◌, ◌<◌, ◌≤◌, Bool, true, false, ◌&&◌, ◌||◌, List, [], ◌∷◌, ◌++◌, Option, Some, None, length, take, drop, get_or, refl, ap, sym, ◌∙◌, subst, arith}
 use Rattle.std.specs.Str.{bytes_eq}
 use Rattle.std.proofs.lemmas.List.{take_all, take-append-drop, drop_more, take_more}
+use Rattle.std.proofs.lemmas.List.Elements.{All-get_or}
 use Rattle.std.proofs.lemmas.Slice.Eq.{bytes_eq-Decides}
 use Rattle.program_types.specs.declared.Rule.{Rule}
 use Rattle.program_types.specs.Apply.{apply, applied, onto}
 use Rattle.stack_rules.specs.Tests.{same_frames}
-use Rattle.hand_lemmas.specs.Frames.{AreSized, AreAddressed}
+use Rattle.hand_lemmas.specs.Frames.{IsFrame, AreSized, AreAddressed}
 use Rattle.hand_lemmas.proofs.Frames.{applied_sized}
 use Rattle.rule_filters.specs.Making.{Adds, AddsOther, Steps, MakesOther, Makes}
 
@@ -142,3 +143,20 @@ pub made_sized : (rules : List Rule) (frames made : List (List ℕ)) (r : Option
 made_sized rules frames made None addressed sized m is = absurd (cc is)
 made_sized rules frames made (Some false) addressed sized m is = absurd (cc is)
 made_sized rules frames made (Some true) addressed sized m is = applied_sized rules frames made addressed sized m.is
+
+-- the same, as a loop has it
+pub made_begun : (rules : List Rule) (frames made : List (List ℕ)) → made ≡ [] → HasMade rules frames 0 false made
+made_begun rules frames made none = subst (HasMade rules frames 0 false) (sym none) (has_made_none rules frames)
+
+pub made_more : (rules : List Rule) (frames : List (List ℕ)) (i : ℕ) (changed other changed' : Bool) (made made' : List (List ℕ)) (f : List ℕ) → i < length frames → get_or frames i [] ≡ f → HasMade rules frames i changed made
+    → Steps (Some other) (apply 1518 rules f) f made made' → changed' ≡ (changed || other) → HasMade rules frames (i + 1) changed' made'
+made_more rules frames i changed other changed' made made' f inside at h s now =
+    subst (λ (b : Bool). HasMade rules frames (i + 1) b made') (sym now) (has_made_step rules frames i changed other made made' f (next_frame frames i f inside at) h s)
+
+pub made_dropped : (rules : List Rule) (frames : List (List ℕ)) (i : ℕ) (made made' : List (List ℕ)) (f : List ℕ) → i < length frames → get_or frames i [] ≡ f → Steps None (apply 1518 rules f) f made made'
+    → Makes None (applied 1518 rules frames) frames made'
+made_dropped rules frames i made made' f inside at s = makes_none rules frames i f inside at s
+
+-- each frame has its header
+pub frame_sized : (frames : List (List ℕ)) (i : ℕ) (f : List ℕ) → AreSized frames → i < length frames → get_or frames i [] ≡ f → IsFrame 1518 f
+frame_sized frames i f sized inside at = subst (IsFrame 1518) at (All-get_or (IsFrame 1518) frames i [] inside sized.each)

@@ -110,6 +110,7 @@ fn step(
 }
 
 // What a program makes of the frames of a list. It answers whether they are others, and None where one is dropped.
+#[tactic(auto, using(crate::proofs::Made::made_begun, crate::proofs::Made::made_more, crate::proofs::Made::made_dropped, crate::proofs::Made::makes_all, crate::proofs::Made::frame_sized))]
 fn make_all(
     program: &Program,
     list: &BufferList,

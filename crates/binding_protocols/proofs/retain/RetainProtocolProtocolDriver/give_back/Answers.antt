@@ -1,4 +1,4 @@
-use Rattle.std.proofs.Common.{◌≡◌, Some, None, refl}
+use Rattle.std.proofs.Common.{Some, None, refl}
 use Rattle.ndis_base.specs.declared.ProtocolKind.TheVariants.{Retain}
 use Rattle.binding_protocols.proofs.Given.{gives_lacking, gives_one}
 use Rattle.binding_protocols.proofs.retain.RetainProtocolProtocolDriver.give_back.Goals as goal
