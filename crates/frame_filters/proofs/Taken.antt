@@ -1,8 +1,9 @@
 -- The list that was kept for a clone.
-use Rattle.std.proofs.Common.{◌≡◌, ◌∙◌, ap, sym, List, Option, Some, None, arith}
+use Rattle.std.proofs.Common.{◌≡◌, ◌∙◌, refl, ap, sym, [], List, Option, Some, None, arith}
 use Rattle.std.proofs.lemmas.Bool.Decides.{nat_tests}
 use Rattle.ndis_base.specs.declared.ListNo.{ListNo}
 use Rattle.ndis_base.specs.declared.ListStatus.{ListStatus}
+use Rattle.ndis_base.specs.declared.Origin.{Origin}
 use Rattle.ndis_base.specs.declared.Origin.TheVariants as origin
 use Rattle.buffer_pools.specs.Views.{ListView}
 use Rattle.driver_calls.specs.Filters.{original_of, without_first, Completes}
@@ -40,3 +41,9 @@ homes_original kept kept' l o status t between t' own h spends back =
 pub homes_alone : (kept kept' : List ListView) (l : ListView) (status : ListStatus) (t t' : TrayView) → l.label.owner ≡ t.caller → original_of l.label.origin kept ≡ None → kept' ≡ kept → Spends t l status t'
     → Completes (keeping kept) l status t kept' t'
 homes_alone kept kept' l status t t' own none same spends = homes t'.pool own none spends.frees same spends.tray
+
+-- no original is kept where no list is
+pub none_kept : (o : Origin) → original_of o [] ≡ None
+none_kept origin.Root = refl
+none_kept (origin.Clone n) = refl
+none_kept (origin.Copy n) = refl
