@@ -1,3 +1,0 @@
-pub mod Making
-pub mod Ruled
-pub mod Treats
