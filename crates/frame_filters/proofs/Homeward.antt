@@ -1,5 +1,5 @@
 -- What becomes of a list on its way home depends on the kept lists alone.
-use Rattle.std.proofs.Common.{◌≡◌, List}
+use Rattle.std.proofs.Common.{List}
 use Rattle.ndis_base.specs.declared.ListStatus.{ListStatus}
 use Rattle.buffer_pools.specs.Views.{ListView}
 use Rattle.driver_views.specs.States.{FilterState}

@@ -1,11 +1,10 @@
 -- A filter whose programs are empty passes each list on.
-use Rattle.std.proofs.Common.{◌≡◌, ℕ, Bool, true, ◌&&◌, List, [], ◌∷◌, ◌++◌, Option, Some, None, refl, ap, rules, arith, subst, sym, ◌∙◌}
+use Rattle.std.proofs.Common.{◌≡◌, ℕ, Bool, true, ◌&&◌, List, [], ◌∷◌, ◌++◌, Some, refl, arith}
 use Rattle.std.specs.Str.{bytes_eq}
 use Rattle.std.proofs.lemmas.Slice.Eq.{bytes_eq-Decides}
 use Rattle.ndis_base.specs.declared.Direction.{Direction}
 use Rattle.ndis_base.specs.declared.Direction.TheVariants as direction
 use Rattle.program_types.specs.Apply.{applied}
-use Rattle.program_types.specs.declared.Rule.{Rule}
 use Rattle.journal_types.specs.declared.Setup.{Setup}
 use Rattle.stack_rules.specs.Tests.{same_frames, is_hold}
 use Rattle.stack_rules.specs.Handled.{program}

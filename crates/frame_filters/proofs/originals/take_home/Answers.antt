@@ -1,6 +1,4 @@
-use Rattle.std.proofs.Common.{◌≡◌, None, refl, sym, ap, ◌∙◌, rules}
-use Rattle.buffer_pools.specs.Views.{ListView}
-use Rattle.driver_tray.specs.Tray.{TrayView, Spends}
+use Rattle.std.proofs.Common.{◌≡◌, None, refl, rules}
 use Rattle.driver_calls.specs.Filters.{original_of}
 use Rattle.frame_filters.specs.Originals.{TakesOriginal}
 use Rattle.frame_filters.proofs.Taken.{homes_original, homes_alone}

@@ -1,6 +1,5 @@
-use Rattle.std.proofs.Common.{◌≡◌, List, Some, sym, subst}
+use Rattle.std.proofs.Common.{sym, subst}
 use Rattle.ndis_base.specs.declared.Origin.{Origin}
-use Rattle.buffer_pools.specs.Views.{ListView}
 use Rattle.frame_filters.specs.Originals.{TakesOriginal}
 use Rattle.frame_filters.proofs.Taken.{taken_original}
 use Rattle.frame_filters.proofs.originals.take_original.Goals as goal
