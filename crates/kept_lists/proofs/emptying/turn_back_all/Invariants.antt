@@ -1,0 +1,15 @@
+use Rattle.std.proofs.Common.{◌≡◌, ◌*◌, ◌≤◌, length}
+use Rattle.std.specs.VecDeque.{deque_capacity, deque_len}
+use Rattle.driver_tray.specs.Tray.{each_turned_back}
+use Rattle.kept_lists.proofs.emptying.turn_back_all.Given as goal
+
+abbrev pub invariant-loop-list : goal.invariant-loop-list
+invariant-loop-list l = record {
+  tray : each_turned_back l.tray l.leaving.items l.status ≡ each_turned_back l.initial.tray l.initial.leaving.items l.status;
+  rows : 2 * length l.leaving.items ≤ l.tray.room.rows;
+  slack : length l.leaving.items ≤ l.tray.slack;
+  capacity : deque_capacity l.leaving ≡ deque_capacity l.initial.leaving;
+}
+
+abbrev pub decreases-loop-list : goal.decreases-loop-list
+decreases-loop-list l = deque_len l.leaving
