@@ -45,11 +45,7 @@ fn restart_all<M: MiniportCalls, P: ProtocolCalls, F: FilterCalls>(
 }
 
 /// The event that inserts a filter below those that are attached.
-fn insert_event(
-    alloc: Global,
-    filter: &FilterSetup,
-    attached: u8,
-) -> Result<Event, OutOfMemory>
+fn insert_event(alloc: Global, filter: &FilterSetup, attached: u8) -> Result<Event, OutOfMemory>
     requires { attached < 255 }
     ensures { IfOk result (λ e. e ≡ event.Insert filter.now.kind (attached + 1) filter.now.setup) }
 {

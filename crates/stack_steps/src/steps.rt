@@ -15,8 +15,8 @@ ghost use Rattle.stack_steps.specs.Steps.{IsHeld, IsWorked, Steps};
 
 use binding_work::send;
 use book_parts::BookParts;
-use driver_calls::{FilterCalls, MiniportCalls, ProtocolCalls};
 use drain_work::drain_still;
+use driver_calls::{FilterCalls, MiniportCalls, ProtocolCalls};
 use driver_tray::First;
 use flat_journal::{FlatEvent, FlatReply};
 use frame_arena::FrameSpan;
