@@ -1,8 +1,7 @@
 -- What an insertion's function asks of its last step, and what it ensures.
-use Rattle.std.proofs.Common.{◌≡◌, ℕ, ◌≤◌, ◌<◌, [], List, Option, Some, None, find, map, length, refl, sym, ap, ◌∙◌, subst}
+use Rattle.std.proofs.Common.{◌≡◌, ℕ, ◌≤◌, List, Option, Some, None, find, map, refl, sym, ap, ◌∙◌, subst}
 use Rattle.std.specs.Prelude.{Result, Ok, Err, OnErr}
 use Rattle.ndis_base.specs.declared.FilterKind.{FilterKind}
-use Rattle.journal_types.specs.declared.Event.{Event}
 use Rattle.journal_types.specs.declared.Event.TheVariants as event
 use Rattle.journal_types.specs.declared.Refusal.{Refusal}
 use Rattle.journal_types.specs.declared.Refusal.TheVariants as refusal
@@ -14,7 +13,7 @@ use Rattle.flat_journal.specs.Payloads.{Payloads, setup_at}
 use Rattle.flat_journal.specs.Within.{SetupWithin}
 use Rattle.driver_views.specs.States.{FilterState}
 use Rattle.driver_tray.specs.Tray.{TrayView}
-use Rattle.book_lemmas.specs.Views.{BookView, HeldView}
+use Rattle.book_lemmas.specs.Views.{BookView}
 use Rattle.book_lemmas.proofs.Goes.{used_none}
 use Rattle.book_parts.specs.Events.{IsBook, IsIdle, IsUnmoved}
 use Rattle.book_parts.proofs.Events.{unmoved}

@@ -1,5 +1,5 @@
 -- What a replacement's function asks of its last step, and what it ensures.
-use Rattle.std.proofs.Common.{◌≡◌, ℕ, ◌≤◌, List, Option, Some, None, find, refl, sym, ap, ◌∙◌, subst}
+use Rattle.std.proofs.Common.{◌≡◌, ℕ, ◌≤◌, List, Some, None, find, sym, ap, ◌∙◌, subst}
 use Rattle.ndis_base.specs.declared.FilterKind.{FilterKind}
 use Rattle.journal_types.specs.declared.Event.TheVariants as event
 use Rattle.journal_types.specs.declared.Refusal.{Refusal}
@@ -10,7 +10,7 @@ use Rattle.flat_journal.specs.declared.types.FlatReply.TheVariants as flat_reply
 use Rattle.flat_journal.specs.declared.types.SetupNo.{SetupNo}
 use Rattle.flat_journal.specs.Payloads.{Payloads, setup_at}
 use Rattle.driver_tray.specs.Tray.{TrayView}
-use Rattle.book_lemmas.specs.Views.{BookView, HeldView}
+use Rattle.book_lemmas.specs.Views.{BookView}
 use Rattle.book_parts.specs.Events.{IsBook, IsIdle, IsUnmoved}
 use Rattle.rewire_work.specs.Refusals.{rewire_refusal}
 use Rattle.rewire_work.specs.Rested.{IsAtRest, IsRoomed}

@@ -1,10 +1,10 @@
 -- What a removal's function asks of its last step, and what it ensures.
-use Rattle.std.proofs.Common.{◌≡◌, ℕ, ◌≤◌, List, Option, Some, None, refl, sym, ap, ◌∙◌, subst}
+use Rattle.std.proofs.Common.{◌≡◌, ℕ, ◌≤◌, List, Some, None, sym, subst}
 use Rattle.journal_types.specs.declared.Event.TheVariants as event
 use Rattle.journal_types.specs.declared.Refusal.{Refusal}
 use Rattle.flat_journal.specs.declared.types.FlatReply.TheVariants as flat_reply
 use Rattle.driver_tray.specs.Tray.{TrayView}
-use Rattle.book_lemmas.specs.Views.{BookView, HeldView}
+use Rattle.book_lemmas.specs.Views.{BookView}
 use Rattle.book_parts.specs.Events.{IsBook, IsIdle, IsUnmoved}
 use Rattle.rewire_work.specs.Refusals.{rewire_refusal}
 use Rattle.rewire_work.specs.Rested.{IsAtRest, IsRoomed}

@@ -1,17 +1,15 @@
 -- A driver on the shelf refused to attach: it counted that, and the book stands as before.
-use Rattle.std.proofs.Common.{◌≡◌, ℕ, ◌<◌, List, [], Option, Some, length, slice_set, length-set, refl, sym, ap, ◌∙◌, subst, All, get_or-set_same, get_or-set_other, ◌⊎◌, inl, inr}
+use Rattle.std.proofs.Common.{◌≡◌, ℕ, ◌<◌, List, [], Some, length, slice_set, length-set, refl, sym, ap, ◌∙◌, subst, get_or-set_same, get_or-set_other, ◌⊎◌, inl, inr}
 use Rattle.std.proofs.lemmas.Bool.{cases_eq}
 use Rattle.std.proofs.lemmas.List.Elements.{All-weaker}
 use Rattle.ndis_base.specs.declared.ModuleId.TheVariants.{Filter}
-use Rattle.ndis_base.specs.declared.Phase.{Phase}
 use Rattle.ndis_base.specs.declared.Phase.TheVariants as phase
 use Rattle.stack_rules.specs.declared.Attached.{Attached}
-use Rattle.stack_rules.specs.Net.{Net, lists, attached}
+use Rattle.stack_rules.specs.Net.{Net, lists}
 use Rattle.agenda_items.specs.declared.Carried.{Carried}
-use Rattle.driver_views.specs.States.{FilterState, Record}
-use Rattle.book_lemmas.specs.Views.{HeldView, no_filter, filter_at, seat_of, IsVacant, IsPlace, IsOnShelf, kept_of, held_pool, hands_of}
+use Rattle.driver_views.specs.States.{FilterState}
+use Rattle.book_lemmas.specs.Views.{HeldView, no_filter, filter_at, seat_of, IsVacant, IsPlace, IsOnShelf, hands_of}
 use Rattle.book_lemmas.specs.Stands.{Stands, IsSeated, IsResting, DriversFit}
-use Rattle.rewire_work.specs.Reseated.{AreTheirs, AreSeated}
 use Rattle.rewire_work.specs.Seated.{took_state}
 use Rattle.rewire_work.proofs.Empty.{kept_none, live_none}
 use Rattle.rewire_work.proofs.Reseated.{stands_reseated}

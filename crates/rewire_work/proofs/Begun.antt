@@ -1,17 +1,16 @@
 -- An event that began with more room did what it did.
-use Rattle.std.proofs.Common.{◌≡◌, ℕ, List, [], ◌++◌, Option, refl, sym, ap, ◌∙◌, subst}
+use Rattle.std.proofs.Common.{[], ◌++◌, Option, refl, sym, ap, ◌∙◌, subst}
 use Rattle.journal_types.specs.declared.Event.{Event}
 use Rattle.journal_types.specs.declared.Reply.{Reply}
-use Rattle.journal_types.specs.declared.Turn.{Turn}
-use Rattle.stack_rules.specs.Net.{Net, told, after_rows}
+use Rattle.stack_rules.specs.Net.{told, after_rows}
 use Rattle.stack_rules.specs.Sound.{outcome}
 use Rattle.driver_tray.specs.Tray.{TrayView, begun_by}
 use Rattle.book_lemmas.specs.Did.{Did}
 use Rattle.book_lemmas.specs.Stands.{IsShelved}
 use Rattle.book_lemmas.specs.Turns.{HasUsed}
-use Rattle.book_lemmas.specs.Views.{BookView, HeldView}
+use Rattle.book_lemmas.specs.Views.{BookView}
 use Rattle.book_lemmas.proofs.Goes.{used_then}
-use Rattle.book_parts.specs.Events.{IsBook, IsIdle, DidEvent, begun_with}
+use Rattle.book_parts.specs.Events.{IsBook, IsIdle, DidEvent}
 use Rattle.book_parts.proofs.Events.{Begins, unmoved}
 use Rattle.rewire_work.specs.Rested.{IsRoomed}
 use Rattle.rewire_work.specs.Shelves.{FollowsShelf}

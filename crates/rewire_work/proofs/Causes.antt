@@ -1,5 +1,5 @@
 -- The rules' answers by the cause that refuses.
-use Rattle.std.proofs.Common.{◌≡◌, ℕ, ◌==◌, Bool, true, false, cond, Option, Some, None, length, refl, ap, ◌∙◌}
+use Rattle.std.proofs.Common.{◌≡◌, ℕ, ◌==◌, Bool, true, false, cond, Option, Some, None, length, refl}
 use Rattle.journal_types.specs.declared.Refusal.{Refusal}
 use Rattle.journal_types.specs.declared.Refusal.TheVariants as refusal
 use Rattle.ndis_base.specs.declared.Phase.TheVariants as phase

@@ -1,5 +1,5 @@
 -- What an event's function ensures, from what its last step did.
-use Rattle.std.proofs.Common.{◌≡◌, ℕ, ◌≤◌, [], Option, Some, None, find, refl, sym, ap, ◌∙◌, subst}
+use Rattle.std.proofs.Common.{◌≡◌, ℕ, ◌≤◌, [], Some, None, find, refl, sym, ap, ◌∙◌, subst}
 use Rattle.std.specs.Prelude.{Result, Ok, Err, IfOk, OnOk, OnErr}
 use Rattle.ndis_base.specs.declared.FilterKind.{FilterKind}
 use Rattle.journal_types.specs.declared.Event.{Event}
@@ -9,15 +9,14 @@ use Rattle.journal_types.specs.declared.Refusal.TheVariants as refusal
 use Rattle.journal_types.specs.declared.Setup.{Setup}
 use Rattle.flat_journal.specs.declared.types.FlatReply.{FlatReply}
 use Rattle.flat_journal.specs.declared.types.FlatReply.TheVariants as flat_reply
-use Rattle.flat_journal.specs.Payloads.{Payloads}
 use Rattle.flat_journal.specs.Shown.{reply_of}
 use Rattle.flat_journal.specs.Within.{ReplyWithin}
 use Rattle.driver_tray.specs.Tray.{TrayView}
 use Rattle.book_lemmas.specs.Views.{BookView, HeldView}
 use Rattle.book_parts.specs.Events.{IsBook, IsIdle, DidEvent, IsUnmoved, CanEnd}
 use Rattle.book_parts.proofs.Events.{Begins, unmoved}
-use Rattle.rewire_work.specs.Refusals.{insert_refusal, rewire_refusal}
-use Rattle.rewire_work.specs.Rested.{IsAtRest, IsRoomed, IsReady}
+use Rattle.rewire_work.specs.Refusals.{insert_refusal}
+use Rattle.rewire_work.specs.Rested.{IsAtRest, IsRoomed}
 use Rattle.rewire_work.specs.Seated.{is_kind_at, Inserts, sits, balks}
 use Rattle.rewire_work.specs.Shelves.{FollowsShelf}
 use Rattle.rewire_work.proofs.Begun.{roomed, begins_room, roomed_book, roomed_idle, did_begun, shelf_begun}

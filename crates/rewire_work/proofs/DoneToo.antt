@@ -1,5 +1,5 @@
 -- What removals and replacements ensure, from what their last step did.
-use Rattle.std.proofs.Common.{◌≡◌, ℕ, ◌≤◌, [], Option, Some, None, find, refl, sym, ap, ◌∙◌, subst}
+use Rattle.std.proofs.Common.{◌≡◌, ℕ, ◌≤◌, Some, None, find, refl}
 use Rattle.ndis_base.specs.declared.FilterKind.{FilterKind}
 use Rattle.journal_types.specs.declared.Event.TheVariants as event
 use Rattle.journal_types.specs.declared.Refusal.{Refusal}
@@ -8,7 +8,7 @@ use Rattle.journal_types.specs.declared.Setup.{Setup}
 use Rattle.flat_journal.specs.declared.types.FlatReply.{FlatReply}
 use Rattle.flat_journal.specs.declared.types.FlatReply.TheVariants as flat_reply
 use Rattle.driver_tray.specs.Tray.{TrayView}
-use Rattle.book_lemmas.specs.Views.{BookView, HeldView}
+use Rattle.book_lemmas.specs.Views.{BookView}
 use Rattle.book_parts.specs.Events.{IsBook, IsIdle}
 use Rattle.rewire_work.specs.Refusals.{rewire_refusal}
 use Rattle.rewire_work.specs.Rested.{IsAtRest, IsRoomed}

@@ -1,5 +1,5 @@
 -- While no list is live, what is in hand agrees with the state whatever the pools and the drivers, where these are empty.
-use Rattle.std.proofs.Common.{◌≡◌, ℕ, Bool, true, false, cond, List, [], ◌∷◌, map, filter, count_by, refl, sym, ap, ◌∙◌, subst, All}
+use Rattle.std.proofs.Common.{◌≡◌, List, [], ◌∷◌, map, filter, count_by, refl, sym, ap, ◌∙◌, subst, All}
 use Rattle.std.proofs.lemmas.List.Elements.{All-nil, All-cons}
 use Rattle.ndis_base.specs.declared.ModuleId.{ModuleId}
 use Rattle.buffer_pools.specs.Views.{ListView, PoolView, live_count}
@@ -7,7 +7,7 @@ use Rattle.stack_rules.specs.declared.LiveList.{LiveList}
 use Rattle.stack_rules.specs.declared.Thing.{Thing}
 use Rattle.stack_rules.specs.declared.Thing.TheVariants as thing
 use Rattle.stack_rules.specs.Net.{Net, lists}
-use Rattle.stack_rules.specs.Places.{is_away, agenda, owned, is_kept_by}
+use Rattle.stack_rules.specs.Places.{is_away, agenda, is_kept_by}
 use Rattle.stack_rules.specs.Tests.{same_module}
 use Rattle.rule_basics.specs.Numbers.{IsNumbered}
 use Rattle.agenda_items.specs.declared.Carried.{Carried}

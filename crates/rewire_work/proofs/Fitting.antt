@@ -1,24 +1,21 @@
 -- The order has room for the filter, at the position.
-use Rattle.std.proofs.Common.{◌≡◌, ℕ, ◌+◌, ◌-◌, ◌≤◌, ◌<◌, ◌==◌, ◌||◌, nat_lt, Bool, true, false, List, None, Some, length, find, map, refl, sym, ap, ◌∙◌, subst, arith, All}
+use Rattle.std.proofs.Common.{◌≡◌, ℕ, ◌+◌, ◌-◌, ◌≤◌, ◌<◌, ◌==◌, ◌||◌, nat_lt, Bool, true, false, List, None, Some, length, find, map, refl, sym, ap, subst, arith, All}
 use Rattle.std.specs.List.{insert}
 use Rattle.std.proofs.lemmas.Bool.Decides.{nat_tests}
 use Rattle.std.proofs.lemmas.List.{length-map}
 use Rattle.std.proofs.lemmas.List.Elements.{All-weaker}
 use Rattle.ndis_base.specs.declared.FilterKind.{FilterKind}
 use Rattle.stack_rules.specs.Net.{Net}
-use Rattle.stack_rules.specs.Outcome.{max_filters}
-use Rattle.stack_rules.specs.Rewires.{is_in, is_bad_position, swapped}
-use Rattle.order_laws.proofs.Lists.{length-insert, length-but}
+use Rattle.order_laws.proofs.Lists.{length-insert}
 use Rattle.driver_calls.specs.Filters.{MayAttach}
 use Rattle.driver_views.specs.States.{FilterState}
-use Rattle.book_lemmas.specs.Stands.{Stands}
-use Rattle.book_lemmas.specs.Views.{BookView, HeldView, filter_at, IsOnShelf}
+use Rattle.book_lemmas.specs.Views.{BookView, filter_at, IsOnShelf}
 use Rattle.book_parts.specs.Events.{IsBook}
 use Rattle.rewire_work.specs.Refusals.{insert_refusal}
 use Rattle.rewire_work.specs.Rested.{IsAtRest}
 use Rattle.rewire_work.specs.Seated.{is_kind_at}
 use Rattle.rewire_work.proofs.Causes.{has_room}
-use Rattle.rewire_work.proofs.Inserted.{IsFirst, is_first}
+use Rattle.rewire_work.proofs.Inserted.{is_first}
 
 good_position : (position many : ℕ) → ((position == 0) || nat_lt (many + 1) position) ≡ false → (1 ≤ position) × (position ≤ many + 1)
 good_position position many e = cases (position == 0) (nat_lt (many + 1) position) refl refl e

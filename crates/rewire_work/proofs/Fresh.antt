@@ -1,7 +1,7 @@
 -- The drivers that filters have or had belong to numbers below the next one.
-use Rattle.std.proofs.Common.{◌≡◌, ℕ, ◌+◌, ◌≤◌, ◌<◌, ◌==◌, Bool, true, false, cond, List, [], ◌∷◌, ◌++◌, Option, Some, None, option_map, find, length, refl, arith, ap, sym, subst, ◌∙◌, All}
+use Rattle.std.proofs.Common.{◌≡◌, ℕ, ◌+◌, ◌≤◌, ◌<◌, ◌==◌, true, false, cond, List, [], ◌∷◌, Option, Some, None, option_map, find, length, refl, arith, ap, sym, subst, ◌∙◌, All}
 use Rattle.std.proofs.lemmas.Bool.Decides.{nat_tests}
-use Rattle.std.proofs.lemmas.List.Elements.{All-nil, All-cons, All-head, All-tail, All-push, All-weaker}
+use Rattle.std.proofs.lemmas.List.Elements.{All-nil, All-head, All-tail, All-push, All-weaker}
 use Rattle.ndis_base.specs.declared.FilterKind.{FilterKind}
 use Rattle.ndis_base.specs.declared.ModuleId.{ModuleId}
 use Rattle.ndis_base.specs.declared.ModuleId.TheVariants.{Miniport, Filter, Binding}
@@ -12,7 +12,6 @@ use Rattle.journal_types.specs.declared.Event.TheVariants as event
 use Rattle.journal_types.specs.declared.PhaseOf.TheVariants as of
 use Rattle.journal_types.specs.declared.Refusal.TheVariants as refusal
 use Rattle.journal_types.specs.declared.Reply.{Reply}
-use Rattle.journal_types.specs.declared.Reply.TheVariants as reply
 use Rattle.journal_types.specs.declared.Row.{Row}
 use Rattle.journal_types.specs.declared.Row.TheVariants as row
 use Rattle.journal_types.specs.declared.Setup.{Setup}
@@ -25,7 +24,7 @@ use Rattle.stack_rules.specs.Outcome.{Outcome, refused, max_filters}
 use Rattle.stack_rules.specs.Pauses.{live_items}
 use Rattle.stack_rules.specs.Rewires.{is_in, is_bad_position, insert_outcome, replace_outcome}
 use Rattle.stack_rules.specs.Sound.{outcome, Next, SoundFrom, Sound}
-use Rattle.promise_rules.specs.Drivers.{Shelf, is_of_kind, taken_from, shelf_told, shelf_at, shelf_in_rows, shelf_in_turns, shelf_of, driver_of, with_place, places_from}
+use Rattle.promise_rules.specs.Drivers.{Shelf, is_of_kind, taken_from, shelf_told, shelf_at, shelf_in_rows, shelf_in_turns, shelf_of, driver_of, places_from}
 use Rattle.state_laws.proofs.Rows.{by_test}
 use Rattle.state_laws.proofs.Quiet.{is_plain}
 use Rattle.state_laws.proofs.Events.{state_after, plain_same, turn_is}

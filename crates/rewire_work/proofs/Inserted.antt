@@ -1,7 +1,7 @@
 -- The event of an insertion.
-use Rattle.std.proofs.Common.{◌≡◌, ℕ, ◌+◌, ◌-◌, ◌≤◌, ◌<◌, ◌==◌, Bool, true, false, cond, List, [], ◌∷◌, ◌++◌, Option, Some, None, find, length, slice_set, refl, sym, ap, ◌∙◌, subst, All, arith, append-nil, ne_eqb, ◌⊎◌, inl, inr}
+use Rattle.std.proofs.Common.{◌≡◌, ℕ, ◌-◌, ◌<◌, Bool, true, false, cond, List, [], ◌∷◌, ◌++◌, Some, None, find, length, refl, sym, ap, ◌∙◌, subst, All, arith, append-nil, ne_eqb, ◌⊎◌, inl, inr}
 use Rattle.std.specs.List.{insert}
-use Rattle.std.proofs.lemmas.Bool.{cond-true, cond-false, cases_eq}
+use Rattle.std.proofs.lemmas.Bool.{cases_eq}
 use Rattle.std.proofs.lemmas.List.Elements.{All-head, All-tail, All-weaker}
 use Rattle.ndis_base.specs.declared.FilterKind.{FilterKind}
 use Rattle.ndis_base.specs.declared.FilterKind.TheVariants as filter_kind
@@ -14,32 +14,27 @@ use Rattle.journal_types.specs.declared.Event.{Event}
 use Rattle.journal_types.specs.declared.Event.TheVariants as event
 use Rattle.journal_types.specs.declared.Refusal.{Refusal}
 use Rattle.journal_types.specs.declared.Refusal.TheVariants as refusal
-use Rattle.journal_types.specs.declared.Reply.{Reply}
 use Rattle.journal_types.specs.declared.Reply.TheVariants as reply
 use Rattle.journal_types.specs.declared.Row.{Row}
 use Rattle.journal_types.specs.declared.Setup.{Setup}
-use Rattle.buffer_pools.specs.Views.{PoolView, live_count}
 use Rattle.stack_rules.specs.declared.Attached.{Attached}
-use Rattle.stack_rules.specs.declared.Choice.{Choice}
-use Rattle.stack_rules.specs.Net.{Net, lists, seen, told, after_rows, attached, with_filter}
-use Rattle.stack_rules.specs.Outcome.{Outcome, refused, config_no}
+use Rattle.stack_rules.specs.Net.{Net, seen, told, after_rows, attached, with_filter}
+use Rattle.stack_rules.specs.Outcome.{Outcome, refused}
 use Rattle.stack_rules.specs.Pauses.{state_row}
-use Rattle.stack_rules.specs.Rewires.{attach_rows, config_row, inserted, insert_outcome, when_attached}
-use Rattle.stack_rules.specs.Sound.{outcome}
+use Rattle.stack_rules.specs.Rewires.{config_row, inserted, insert_outcome, when_attached}
 use Rattle.promise_rules.specs.Drivers.{Shelf, same_filter_kind, shelf_told, shelf_in_rows, shelf_of, taken_from, driver_of, is_of_kind, without_place}
-use Rattle.driver_views.specs.States.{FilterState, Record}
-use Rattle.driver_tray.specs.Tray.{TrayView, begun_by, turn_of}
+use Rattle.driver_views.specs.States.{FilterState}
+use Rattle.driver_tray.specs.Tray.{turn_of}
 use Rattle.driver_calls.specs.Filters.{Refuses}
-use Rattle.book_lemmas.specs.Did.{Did, calls_in, logs_in}
+use Rattle.book_lemmas.specs.Did.{Did, logs_in}
 use Rattle.book_lemmas.specs.Follows.{Follows}
-use Rattle.book_lemmas.specs.Leaves.{IsSeatedStill}
-use Rattle.book_lemmas.specs.Stands.{Stands, IsResting, IsShelved}
+use Rattle.book_lemmas.specs.Stands.{IsResting, IsShelved}
 use Rattle.book_lemmas.specs.Turns.{HasUsed}
 use Rattle.book_lemmas.specs.Views.{BookView, HeldView, filter_at, seat_of, IsOnShelf}
 use Rattle.book_lemmas.proofs.Goes.{used_none}
 use Rattle.book_parts.specs.Events.{IsBook, IsIdle, DidEvent, begun_with}
 use Rattle.book_parts.proofs.Ended.{idle_state}
-use Rattle.book_parts.proofs.Events.{Begins, Ends, did_event, ends_still}
+use Rattle.book_parts.proofs.Events.{Ends, did_event, ends_still}
 use Rattle.phase_work.specs.Written.{CountsNothing}
 use Rattle.phase_work.proofs.Written.{did_nothing}
 use Rattle.rewire_work.specs.Refusals.{insert_refusal, refused_or}
@@ -49,7 +44,7 @@ use Rattle.rewire_work.specs.Shelves.{FollowsShelf}
 use Rattle.rewire_work.proofs.Balking.{stands_took, did_still}
 use Rattle.rewire_work.proofs.Causes.{attaches, refuses, lacks, taken, balked, lacking, insert_is, paused_first}
 use Rattle.rewire_work.proofs.Fresh.{AreBelow, shelf_below, none_below}
-use Rattle.rewire_work.proofs.Inserting.{new_entry, stands_inserted, was_there}
+use Rattle.rewire_work.proofs.Inserting.{stands_inserted, was_there}
 use Rattle.rewire_work.proofs.Rested.{at_rest}
 use Rattle.rewire_work.proofs.Shelving.{kinds_of, shelf_then, kinds_same, find_same, driver_new, driver_old, follows_still}
 use Rattle.rewire_work.proofs.Sitting.{MaySit, here, there}

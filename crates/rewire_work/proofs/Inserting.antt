@@ -1,28 +1,26 @@
 -- The filter of the next number is inserted: the book stands again.
-use Rattle.std.proofs.Common.{◌≡◌, ℕ, ◌+◌, ◌-◌, ◌==◌, Bool, true, false, List, [], ◌∷◌, ◌++◌, Option, Some, None, length, refl, sym, ap, ◌∙◌, subst, ne_eqb, ◌⊎◌, inl, inr}
+use Rattle.std.proofs.Common.{◌≡◌, ℕ, ◌-◌, List, [], Option, Some, refl, sym, ap, ◌∙◌, subst, ne_eqb, ◌⊎◌, inl, inr}
 use Rattle.std.specs.List.{insert}
 use Rattle.std.proofs.lemmas.Bool.{cases_eq}
 use Rattle.ndis_base.specs.declared.FilterKind.{FilterKind}
 use Rattle.ndis_base.specs.declared.ModuleId.TheVariants.{Filter}
 use Rattle.ndis_base.specs.declared.ModuleState.TheVariants as state
 use Rattle.ndis_base.specs.declared.Phase.TheVariants as phase
-use Rattle.ndis_base.specs.declared.Phase.{Phase}
-use Rattle.journal_types.specs.declared.Row.{Row}
 use Rattle.journal_types.specs.declared.Setup.{Setup}
 use Rattle.buffer_pools.specs.Views.{PoolView}
 use Rattle.stack_rules.specs.declared.Attached.{Attached}
 use Rattle.stack_rules.specs.Net.{Net, attached, with_filter, after, after_rows}
 use Rattle.stack_rules.specs.Places.{pool_in}
-use Rattle.stack_rules.specs.Rewires.{is_in, attach_rows, config_row, inserted}
+use Rattle.stack_rules.specs.Rewires.{attach_rows, config_row, inserted}
 use Rattle.state_laws.proofs.Takes.{attached-is}
 use Rattle.agenda_items.specs.declared.Carried.{Carried}
 use Rattle.driver_views.specs.States.{FilterState}
 use Rattle.book_lemmas.specs.Leaves.{IsSeatedStill}
-use Rattle.book_lemmas.specs.Views.{HeldView, held_pool, seat_of}
-use Rattle.book_lemmas.specs.Stands.{Stands, IsPoolOf, IsSeated, DriversFit}
+use Rattle.book_lemmas.specs.Views.{HeldView, seat_of}
+use Rattle.book_lemmas.specs.Stands.{Stands, IsSeated, DriversFit}
 use Rattle.book_lemmas.proofs.Phases.{still_phases}
 use Rattle.rewire_work.specs.Rested.{IsAtRest}
-use Rattle.rewire_work.specs.Reseated.{IsSameStack, AreTheirs, AreSeated}
+use Rattle.rewire_work.specs.Reseated.{AreTheirs}
 use Rattle.rewire_work.specs.Seated.{seated}
 use Rattle.rewire_work.proofs.Orders.{fresh, in_longer, attached_new, attached_old}
 use Rattle.rewire_work.proofs.Reseated.{stands_reseated}

@@ -1,24 +1,20 @@
 -- What the last steps of an event's function make of a book.
-use Rattle.std.proofs.Common.{◌≡◌, ℕ, ◌-◌, ◌==◌, not, filter, List, [], ◌∷◌, ◌++◌, Option, Some, None, slice_set, map, refl, sym, ap, ◌∙◌, subst}
+use Rattle.std.proofs.Common.{◌≡◌, ℕ, ◌-◌, ◌==◌, not, filter, List, [], ◌∷◌, ◌++◌, Some, None, slice_set, ap, ◌∙◌, subst}
 use Rattle.std.specs.List.{insert}
 use Rattle.ndis_base.specs.declared.FilterKind.{FilterKind}
 use Rattle.ndis_base.specs.declared.ModuleId.TheVariants.{Filter}
 use Rattle.ndis_base.specs.declared.ModuleState.TheVariants as state
 use Rattle.journal_types.specs.declared.Event.TheVariants as event
-use Rattle.journal_types.specs.declared.Refusal.TheVariants as refusal
 use Rattle.journal_types.specs.declared.Reply.TheVariants as reply
 use Rattle.journal_types.specs.declared.Setup.{Setup}
 use Rattle.buffer_pools.specs.Views.{PoolView}
-use Rattle.flat_journal.specs.declared.types.FlatReply.{FlatReply}
 use Rattle.flat_journal.specs.declared.types.FlatReply.TheVariants as flat_reply
 use Rattle.stack_rules.specs.Pauses.{state_row}
-use Rattle.stack_rules.specs.Rewires.{swapped}
 use Rattle.promise_rules.specs.Drivers.{without_place}
 use Rattle.driver_views.specs.States.{FilterState}
 use Rattle.driver_tray.specs.Tray.{TrayView, told_to, written}
-use Rattle.driver_calls.specs.Filters.{Refuses}
 use Rattle.book_lemmas.specs.Views.{BookView, HeldView, filter_at, seat_of}
-use Rattle.rewire_work.specs.Seated.{seated, unseated, took_state, set_up, put_down, pool_for, attaching, reordered, without_seat, inserted_tray, removed_tray, replaced_tray, reseated, Inserts, sits, Removes, Replaces, swaps}
+use Rattle.rewire_work.specs.Seated.{seated, set_up, put_down, pool_for, attaching, reordered, without_seat, Inserts, sits, Removes}
 
 -- what is held, by its changed parts
 abbrev pub with_parts : HeldView → List FilterState → List PoolView → List (ℕ × ℕ) → List ℕ → HeldView

@@ -1,5 +1,5 @@
 -- What the last steps of a replacement make of a book.
-use Rattle.std.proofs.Common.{◌≡◌, ℕ, ◌<◌, List, [], ◌∷◌, ◌++◌, Option, Some, None, slice_set, length, length-set, map, refl, sym, ap, ◌∙◌, subst, arith}
+use Rattle.std.proofs.Common.{◌≡◌, ℕ, ◌<◌, List, [], ◌∷◌, ◌++◌, Some, None, slice_set, length, length-set, map, ap, ◌∙◌, subst, arith}
 use Rattle.std.proofs.lemmas.List.{length-map}
 use Rattle.ndis_base.specs.declared.FilterKind.{FilterKind}
 use Rattle.ndis_base.specs.declared.ModuleId.TheVariants.{Filter}
@@ -10,14 +10,14 @@ use Rattle.journal_types.specs.declared.Setup.{Setup}
 use Rattle.buffer_pools.specs.Views.{PoolView}
 use Rattle.flat_journal.specs.declared.types.FlatReply.TheVariants as flat_reply
 use Rattle.stack_rules.specs.Pauses.{state_row}
-use Rattle.stack_rules.specs.Rewires.{is_in, swapped}
+use Rattle.stack_rules.specs.Rewires.{swapped}
 use Rattle.promise_rules.specs.Drivers.{without_place}
 use Rattle.driver_views.specs.States.{FilterState}
 use Rattle.driver_tray.specs.Tray.{TrayView, told_to, written}
 use Rattle.book_lemmas.specs.Views.{BookView, HeldView, filter_at, seat_of}
 use Rattle.book_parts.specs.Events.{IsBook}
 use Rattle.rewire_work.specs.Rested.{IsAtRest}
-use Rattle.rewire_work.specs.Seated.{seated, set_up, put_down, pool_for, attaching, reordered, without_seat, reseated, Replaces, swaps}
+use Rattle.rewire_work.specs.Seated.{set_up, put_down, pool_for, attaching, reordered, without_seat, reseated, Replaces, swaps}
 use Rattle.rewire_work.proofs.Inserted.{IsFirst}
 use Rattle.rewire_work.proofs.Made.{with_parts, sat_parts}
 use Rattle.rewire_work.proofs.Removed.{keeps_none}

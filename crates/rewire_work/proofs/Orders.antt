@@ -1,11 +1,11 @@
 -- The orders of filters, and the filters that are attached, as one comes and one goes.
-use Rattle.std.proofs.Common.{◌≡◌, ℕ, zero, suc, ◌+◌, ◌<◌, ◌==◌, ◌||◌, not, Bool, true, false, cond, List, [], ◌∷◌, ◌++◌, Option, Some, None, filter, map, refl, sym, ap, ◌∙◌, arith, ◌⊎◌, inl, inr, eq-eqb, ne_eqb}
+use Rattle.std.proofs.Common.{◌≡◌, ℕ, zero, suc, ◌<◌, ◌==◌, ◌||◌, not, Bool, true, false, cond, List, [], ◌∷◌, ◌++◌, Some, None, filter, refl, sym, ap, ◌∙◌, arith, ◌⊎◌, inl, inr, ne_eqb}
 use Rattle.std.specs.List.{insert}
-use Rattle.std.proofs.lemmas.Bool.{cond-true, cond-false, cases_eq}
+use Rattle.std.proofs.lemmas.Bool.{cond-false}
 use Rattle.std.proofs.lemmas.Bool.Decides.{nat_tests}
 use Rattle.stack_rules.specs.declared.Attached.{Attached}
 use Rattle.stack_rules.specs.Net.{attached}
-use Rattle.stack_rules.specs.Rewires.{is_in, swapped}
+use Rattle.stack_rules.specs.Rewires.{is_in}
 use Rattle.state_laws.specs.Shape.{AllBelow, AllIn}
 
 pub fresh : (n : ℕ) (fs : List ℕ) → AllBelow n fs → is_in n fs ≡ false

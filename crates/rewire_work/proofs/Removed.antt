@@ -1,7 +1,6 @@
 -- The event of a removal.
-use Rattle.std.proofs.Common.{◌≡◌, ℕ, ◌+◌, ◌≤◌, ◌<◌, ◌==◌, not, true, List, [], ◌∷◌, ◌++◌, Option, Some, None, filter, length, refl, sym, ap, ◌∙◌, subst, arith, append-nil, ◌⊎◌, inl, inr}
+use Rattle.std.proofs.Common.{◌≡◌, ℕ, ◌==◌, not, true, List, [], ◌∷◌, ◌++◌, Option, Some, None, filter, length, refl, sym, ap, ◌∙◌, subst, arith, append-nil, ◌⊎◌, inl, inr}
 use Rattle.std.proofs.lemmas.Bool.{cases_eq}
-use Rattle.ndis_base.specs.declared.FilterKind.{FilterKind}
 use Rattle.ndis_base.specs.declared.ModuleId.{ModuleId}
 use Rattle.ndis_base.specs.declared.ModuleId.TheVariants.{Miniport, Filter, Binding}
 use Rattle.ndis_base.specs.declared.ModuleState.TheVariants as state
@@ -17,12 +16,12 @@ use Rattle.stack_rules.specs.Net.{Net, lists, after_rows, attached}
 use Rattle.stack_rules.specs.Outcome.{Outcome, refused}
 use Rattle.stack_rules.specs.Pauses.{state_row}
 use Rattle.stack_rules.specs.Rewires.{is_in, config_row, removed, remove_outcome}
-use Rattle.promise_rules.specs.Drivers.{Shelf, shelf_told, shelf_in_rows, shelf_of, with_place, driver_of}
+use Rattle.promise_rules.specs.Drivers.{Shelf, shelf_in_rows, shelf_of, with_place, driver_of}
 use Rattle.agenda_items.specs.declared.Carried.{Carried}
 use Rattle.driver_views.specs.States.{FilterState}
-use Rattle.driver_tray.specs.Tray.{TrayView, begun_by, turn_of}
+use Rattle.driver_tray.specs.Tray.{begun_by, turn_of}
 use Rattle.book_lemmas.specs.Did.{logs_in}
-use Rattle.book_lemmas.specs.Stands.{Stands, IsResting, IsShelved, DriversFit}
+use Rattle.book_lemmas.specs.Stands.{Stands, IsShelved, DriversFit}
 use Rattle.book_lemmas.specs.Views.{BookView, HeldView, filter_at, seat_of, hands_of}
 use Rattle.book_lemmas.proofs.Goes.{used_none}
 use Rattle.book_parts.specs.Events.{IsBook, IsIdle, DidEvent}

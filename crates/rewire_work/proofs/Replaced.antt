@@ -1,8 +1,7 @@
 -- The event of a replacement: the new filter sits down, and the old one gets up.
-use Rattle.std.proofs.Common.{◌≡◌, ℕ, zero, suc, ◌+◌, ◌≤◌, ◌<◌, ◌==◌, ◌||◌, not, Bool, true, false, cond, List, [], ◌∷◌, ◌++◌, Option, Some, None, option_map, filter, map, find, length, slice_set, length-set, refl, sym, ap, ◌∙◌, subst, arith, append-nil, ne_eqb, ◌⊎◌, inl, inr}
+use Rattle.std.proofs.Common.{◌≡◌, ℕ, zero, ◌<◌, ◌==◌, ◌||◌, Bool, true, false, cond, List, [], ◌∷◌, ◌++◌, Option, Some, None, option_map, map, length, refl, sym, ap, ◌∙◌, subst, arith, append-nil, ne_eqb, ◌⊎◌, inl, inr}
 use Rattle.std.specs.List.{insert}
 use Rattle.std.proofs.lemmas.Bool.{cases_eq}
-use Rattle.std.proofs.lemmas.Bool.Decides.{nat_tests}
 use Rattle.ndis_base.specs.declared.FilterKind.{FilterKind}
 use Rattle.ndis_base.specs.declared.ModuleId.{ModuleId}
 use Rattle.ndis_base.specs.declared.ModuleId.TheVariants.{Miniport, Filter, Binding}
@@ -16,34 +15,32 @@ use Rattle.journal_types.specs.declared.Refusal.TheVariants as refusal
 use Rattle.journal_types.specs.declared.Reply.TheVariants as reply
 use Rattle.journal_types.specs.declared.Row.{Row}
 use Rattle.journal_types.specs.declared.Setup.{Setup}
-use Rattle.buffer_pools.specs.Views.{PoolView}
 use Rattle.stack_rules.specs.declared.Attached.{Attached}
-use Rattle.stack_rules.specs.Net.{Net, lists, after_rows, attached, with_filter, with_state}
+use Rattle.stack_rules.specs.Net.{Net, after_rows, attached, with_filter, with_state}
 use Rattle.stack_rules.specs.Outcome.{Outcome, refused}
 use Rattle.stack_rules.specs.Pauses.{state_row}
 use Rattle.stack_rules.specs.Rewires.{is_in, swapped, config_row, inserted, replaced, replace_outcome, when_attached}
 use Rattle.state_laws.proofs.Takes.{attached-with_state}
 use Rattle.promise_rules.specs.Drivers.{Shelf, shelf_told, shelf_in_rows, shelf_of, taken_from, with_place, without_place, driver_of}
 use Rattle.driver_views.specs.States.{FilterState}
-use Rattle.driver_tray.specs.Tray.{TrayView, turn_of}
+use Rattle.driver_tray.specs.Tray.{turn_of}
 use Rattle.driver_calls.specs.Filters.{Refuses}
 use Rattle.book_lemmas.specs.Did.{logs_in}
-use Rattle.book_lemmas.specs.Stands.{Stands, IsResting, IsShelved, DriversFit}
+use Rattle.book_lemmas.specs.Stands.{Stands, IsShelved, DriversFit}
 use Rattle.book_lemmas.specs.Views.{BookView, HeldView, filter_at, seat_of}
 use Rattle.book_lemmas.proofs.Goes.{used_none}
 use Rattle.book_parts.specs.Events.{IsBook, IsIdle, DidEvent}
 use Rattle.book_parts.proofs.Events.{did_event, ends_still}
-use Rattle.phase_work.specs.Written.{CountsNothing}
 use Rattle.rewire_work.specs.Refusals.{rewire_refusal, refused_or}
 use Rattle.rewire_work.specs.Rested.{IsAtRest}
-use Rattle.rewire_work.specs.Seated.{took_state, seated, unseated, set_up, put_down, pool_for, replaced_tray, reseated}
+use Rattle.rewire_work.specs.Seated.{took_state, seated, unseated, set_up, put_down, pool_for, replaced_tray}
 use Rattle.rewire_work.specs.Shelves.{FollowsShelf}
-use Rattle.rewire_work.proofs.Balking.{stands_took, did_still}
+use Rattle.rewire_work.proofs.Balking.{did_still}
 use Rattle.rewire_work.proofs.Causes.{attaches, refuses, lacks, taken, balked, lacking, replace_is, paused_first, is_there}
 use Rattle.rewire_work.proofs.Inserted.{IsFirst, next_free, first_taken, ends_took}
-use Rattle.rewire_work.proofs.Inserting.{new_entry, stands_inserted, was_there}
-use Rattle.rewire_work.proofs.Orders.{less, attached_gone, attached_less, in_below, is_in-insert}
-use Rattle.rewire_work.proofs.Removed.{IsSitting, is_sitting, may_rise}
+use Rattle.rewire_work.proofs.Inserting.{stands_inserted, was_there}
+use Rattle.rewire_work.proofs.Orders.{less, attached_gone, attached_less, in_below}
+use Rattle.rewire_work.proofs.Removed.{is_sitting, may_rise}
 use Rattle.rewire_work.proofs.Reseated.{stands_reseated}
 use Rattle.rewire_work.proofs.Rewired.{did_rewire}
 use Rattle.rewire_work.proofs.Rising.{MayRise, are_left, left, theirs_unseated}

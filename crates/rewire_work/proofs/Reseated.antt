@@ -1,19 +1,17 @@
 -- A book stands again where its filters sit at other places, while no list is live.
-use Rattle.std.proofs.Common.{◌≡◌, ℕ, ◌≤◌, ◌<◌, true, List, [], length, slice_index_or, refl, sym, ap, ◌∙◌, subst, All}
+use Rattle.std.proofs.Common.{◌≡◌, ◌≤◌, ◌<◌, List, [], length, slice_index_or, sym, ap, ◌∙◌, subst, All}
 use Rattle.std.proofs.lemmas.List.Elements.{All-nil}
 use Rattle.ndis_base.specs.declared.ModuleId.{ModuleId}
 use Rattle.ndis_base.specs.declared.ModuleId.TheVariants.{Miniport, Filter, Binding}
 use Rattle.ndis_base.specs.declared.ProtocolKind.TheVariants as protocol_kind
 use Rattle.journal_types.specs.declared.StackHead.{StackHead}
 use Rattle.buffer_pools.specs.Views.{ListView, PoolView, live_count}
-use Rattle.stack_rules.specs.declared.LiveList.{LiveList}
 use Rattle.stack_rules.specs.Heads.{kind_of_binding}
 use Rattle.stack_rules.specs.Net.{Net, lists}
 use Rattle.state_laws.specs.Laws.{IsThere}
 use Rattle.rule_basics.specs.Live.{IsApart, IsBelow}
 use Rattle.rule_basics.specs.Numbers.{IsNumbered}
 use Rattle.agenda_items.specs.declared.Carried.{Carried}
-use Rattle.hand_lemmas.specs.Hands.{Agrees}
 use Rattle.book_lemmas.specs.Views.{HeldView, no_pool, held_pool, kept_of, hands_of}
 use Rattle.book_lemmas.specs.Stands.{Stands, IsPoolOf, IsSized, DriversFit}
 use Rattle.rewire_work.specs.Reseated.{IsSameStack, AreTheirs, AreSeated}

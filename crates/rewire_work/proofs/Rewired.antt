@@ -5,16 +5,16 @@ use Rattle.journal_types.specs.declared.Event.{Event}
 use Rattle.journal_types.specs.declared.Reply.{Reply}
 use Rattle.journal_types.specs.declared.Row.{Row}
 use Rattle.stack_rules.specs.declared.Choice.{Choice}
-use Rattle.stack_rules.specs.Net.{Net, seen, told, after_rows}
+use Rattle.stack_rules.specs.Net.{seen, told, after_rows}
 use Rattle.stack_rules.specs.Sound.{Sound, outcome}
-use Rattle.driver_tray.specs.Tray.{TrayView, begun_by}
+use Rattle.driver_tray.specs.Tray.{begun_by}
 use Rattle.journal_types.specs.declared.StackHead.{StackHead}
 use Rattle.std.proofs.Common.{◌≤◌, length}
 use Rattle.book_lemmas.specs.Did.{Did, calls_in, logs_in}
 use Rattle.book_lemmas.specs.Stands.{Stands}
 use Rattle.book_lemmas.specs.Turns.{HasUsed}
-use Rattle.book_lemmas.specs.Views.{BookView, HeldView}
-use Rattle.book_parts.specs.Events.{IsBook, IsIdle, DidEvent, begun_with}
+use Rattle.book_lemmas.specs.Views.{BookView}
+use Rattle.book_parts.specs.Events.{IsBook, IsIdle, DidEvent}
 use Rattle.book_parts.proofs.Ended.{idle_state}
 use Rattle.phase_work.specs.Written.{CountsNothing}
 use Rattle.phase_work.proofs.Written.{did_nothing}

@@ -1,11 +1,11 @@
 -- A filter gets up from its place, whose driver goes to the shelf's end.
-use Rattle.std.proofs.Common.{◌≡◌, ℕ, ◌<◌, ◌==◌, not, Bool, true, false, cond, List, [], ◌∷◌, ◌++◌, Option, Some, None, length, filter, slice_set, length-set, refl, sym, ap, ◌∙◌, subst, All, get_or-set_same, get_or-set_other, eq-eqb, ne_eqb, ◌⊎◌, inl, inr}
-use Rattle.std.proofs.lemmas.Bool.{cond-true, cond-false, cases_eq}
+use Rattle.std.proofs.Common.{◌≡◌, ℕ, ◌<◌, ◌==◌, not, Bool, true, false, cond, List, [], ◌∷◌, Option, Some, None, length-set, refl, sym, ap, ◌∙◌, subst, get_or-set_same, get_or-set_other, ne_eqb, ◌⊎◌, inl, inr}
+use Rattle.std.proofs.lemmas.Bool.{cond-false, cases_eq}
 use Rattle.std.proofs.lemmas.Bool.Decides.{nat_tests}
 use Rattle.std.proofs.Common.{arith}
 use Rattle.std.proofs.lemmas.List.Elements.{All-push, All-weaker}
 use Rattle.ndis_base.specs.declared.ModuleId.TheVariants.{Filter}
-use Rattle.buffer_pools.specs.Views.{PoolView, live_count}
+use Rattle.buffer_pools.specs.Views.{live_count}
 use Rattle.stack_rules.specs.declared.Attached.{Attached}
 use Rattle.stack_rules.specs.Net.{Net, lists, attached}
 use Rattle.stack_rules.specs.Places.{pool_in}
@@ -13,7 +13,7 @@ use Rattle.stack_rules.specs.Rewires.{is_in}
 use Rattle.state_laws.proofs.Takes.{attached-is}
 use Rattle.agenda_items.specs.declared.Carried.{Carried}
 use Rattle.driver_views.specs.States.{FilterState}
-use Rattle.book_lemmas.specs.Views.{HeldView, no_filter, no_pool, filter_at, pool_at, seat_of, IsVacant, IsPlace, IsOnShelf, held_pool, kept_of, hands_of}
+use Rattle.book_lemmas.specs.Views.{HeldView, no_filter, filter_at, pool_at, seat_of, IsVacant, IsPlace, IsOnShelf, held_pool, kept_of, hands_of}
 use Rattle.book_lemmas.specs.Stands.{Stands, IsPoolOf, IsSeated, SeatsApart, IsResting}
 use Rattle.rewire_work.specs.Reseated.{AreTheirs, AreSeated}
 use Rattle.rewire_work.specs.Seated.{without_seat, unseated}

@@ -1,7 +1,6 @@
 -- The shelf and the seats after a turn are those that are promised, where they were before it.
-use Rattle.std.proofs.Common.{◌≡◌, ℕ, zero, suc, ◌<◌, ◌==◌, Bool, true, false, cond, List, [], ◌∷◌, ◌++◌, Option, Some, None, option_map, unwrap_or, find, length, map, slice_get, slice_set, refl, sym, ap, ◌∙◌, subst, All, eq-eqb, ne_eqb, ◌⊎◌, inl, inr, arith}
+use Rattle.std.proofs.Common.{◌≡◌, ℕ, zero, suc, ◌<◌, ◌==◌, Bool, true, false, cond, List, [], ◌∷◌, ◌++◌, Some, None, option_map, unwrap_or, find, length, map, slice_get, slice_set, refl, sym, ap, ◌∙◌, All, eq-eqb, arith}
 use Rattle.std.proofs.Math.Seq.{map-set_same}
-use Rattle.std.proofs.lemmas.Bool.{cond-true, cond-false, cases_eq}
 use Rattle.std.proofs.lemmas.List.Elements.{All-head, All-tail}
 use Rattle.std.proofs.lemmas.Option.{slice_get-map}
 use Rattle.ndis_base.specs.declared.FilterKind.{FilterKind}
@@ -13,7 +12,7 @@ use Rattle.stack_rules.specs.declared.Attached.{Attached}
 use Rattle.stack_rules.specs.Net.{Net, attached}
 use Rattle.promise_rules.specs.Drivers.{Shelf, same_filter_kind, is_of_kind, shelf_told, shelf_in_rows, shelf_in_turns, shelf_of, driver_of}
 use Rattle.driver_views.specs.States.{FilterState}
-use Rattle.driver_tray.specs.Tray.{TrayView, turn_of}
+use Rattle.driver_tray.specs.Tray.{turn_of}
 use Rattle.book_lemmas.specs.Stands.{IsShelved}
 use Rattle.book_lemmas.specs.Views.{BookView, HeldView, no_filter, filter_at, seat_of}
 use Rattle.rewire_work.specs.Seated.{is_kind_at}

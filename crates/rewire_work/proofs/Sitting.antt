@@ -1,28 +1,22 @@
 -- A filter sits down at a place of the shelf.
-use Rattle.std.proofs.Common.{◌≡◌, ℕ, ◌<◌, ◌==◌, not, Bool, true, false, cond, List, [], ◌∷◌, ◌++◌, Option, Some, None, length, filter, slice_set, length-set, refl, sym, ap, ◌∙◌, subst, All, get_or-set_same, get_or-set_other, eq-eqb, ne_eqb, ◌⊎◌, inl, inr}
+use Rattle.std.proofs.Common.{◌≡◌, ℕ, ◌<◌, ◌==◌, not, Bool, true, false, cond, List, [], ◌∷◌, ◌++◌, Option, Some, None, slice_set, length-set, refl, sym, ap, ◌∙◌, subst, All, get_or-set_same, get_or-set_other, eq-eqb, ne_eqb, ◌⊎◌, inl, inr}
 use Rattle.std.proofs.lemmas.Bool.{cond-true, cond-false, cases_eq}
 use Rattle.std.proofs.lemmas.List.Elements.{All-nil, All-cons, All-head, All-tail}
-use Rattle.ndis_base.specs.declared.FilterKind.{FilterKind}
 use Rattle.ndis_base.specs.declared.ModuleId.TheVariants.{Filter}
-use Rattle.ndis_base.specs.declared.ModuleState.TheVariants as state
 use Rattle.journal_types.specs.declared.Setup.{Setup}
-use Rattle.buffer_pools.specs.Views.{ListView, PoolView, live_count}
+use Rattle.buffer_pools.specs.Views.{PoolView, live_count}
 use Rattle.stack_rules.specs.declared.Attached.{Attached}
-use Rattle.stack_rules.specs.Net.{Net, lists, attached, with_filter}
+use Rattle.stack_rules.specs.Net.{Net, lists, attached}
 use Rattle.stack_rules.specs.Places.{pool_in}
 use Rattle.stack_rules.specs.Rewires.{is_in}
-use Rattle.state_laws.specs.Shape.{IsWired}
-use Rattle.state_laws.proofs.Takes.{attached-is}
 use Rattle.promise_rules.specs.Drivers.{without_place}
 use Rattle.agenda_items.specs.declared.Carried.{Carried}
 use Rattle.driver_views.specs.States.{FilterState}
-use Rattle.book_lemmas.specs.Leaves.{IsSeatedStill, WasAttached}
 use Rattle.book_lemmas.specs.Views.{HeldView, no_filter, no_pool, filter_at, pool_at, seat_of, IsVacant, IsPlace, IsOnShelf, held_pool, kept_of, hands_of}
 use Rattle.book_lemmas.specs.Stands.{Stands, IsPoolOf, IsSeated, SeatsApart, IsResting}
 use Rattle.rewire_work.specs.Reseated.{AreSeated}
 use Rattle.rewire_work.specs.Seated.{seated}
 use Rattle.rewire_work.proofs.Empty.{kept_none, live_none}
-use Rattle.rewire_work.proofs.Orders.{fresh, attached_new, attached_old}
 
 -- what is read at a place after another value was put at one
 pub filter_other : (filters : List FilterState) (place : ℕ) (s : FilterState) (o : Option ℕ) → (o ≡ Some place → ⊥) → filter_at (slice_set filters place s) o ≡ filter_at filters o

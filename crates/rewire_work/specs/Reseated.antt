@@ -1,12 +1,12 @@
 -- Filters sit at other places than before, while no list is live.
-use Rattle.std.specs.Prelude.{◌≡◌, ℕ, true, [], List, Some, All, length, slice_index_or}
+use Rattle.std.specs.Prelude.{◌≡◌, ℕ, true, [], Some, All, length, slice_index_or}
 use Rattle.ndis_base.specs.declared.ModuleId.TheVariants.{Filter}
 use Rattle.buffer_pools.specs.Views.{live_count}
 use Rattle.stack_rules.specs.declared.Attached.{Attached}
 use Rattle.stack_rules.specs.Net.{Net, attached}
 use Rattle.stack_rules.specs.Rewires.{is_in}
 use Rattle.book_lemmas.specs.Views.{HeldView, no_protocol, filter_at, seat_of, IsVacant, IsPlace, IsOnShelf, held_pool, kept_of}
-use Rattle.book_lemmas.specs.Stands.{IsPoolOf, IsSeated, SeatsApart, IsResting, DriversFit}
+use Rattle.book_lemmas.specs.Stands.{IsPoolOf, IsSeated, SeatsApart, IsResting}
 
 -- the stack has the same head, bindings and lists
 pub record IsSameStack (net now : Net) : Type 0 where

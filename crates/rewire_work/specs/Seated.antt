@@ -1,5 +1,5 @@
 -- A filter sits down at the place of a driver on the shelf.
-use Rattle.std.specs.Prelude.{◌≡◌, ℕ, ◌+◌, ◌-◌, ◌==◌, Bool, not, [], ◌∷◌, ◌++◌, List, Option, Some, None, slice_set, insert, filter, map}
+use Rattle.std.specs.Prelude.{◌≡◌, ℕ, ◌+◌, ◌-◌, ◌==◌, Bool, not, [], ◌∷◌, ◌++◌, List, Some, None, slice_set, insert, filter, map}
 use Rattle.ndis_base.specs.declared.FilterKind.{FilterKind}
 use Rattle.ndis_base.specs.declared.ModuleId.TheVariants.{Filter}
 use Rattle.ndis_base.specs.declared.ModuleState.TheVariants as state

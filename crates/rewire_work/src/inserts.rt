@@ -21,21 +21,17 @@ use book_parts::BookParts;
 use buffer_pools::ListPool;
 use driver_calls::{AttachFault, FilterCalls, MiniportCalls, ProtocolCalls};
 use driver_tray::Tray;
-use flat_journal::{FlatReply, Room, SetupNo, copied_setup};
-use journal_types::{PhaseOf, Refusal};
-use ndis_base::{ConfigNo, FilterKind, ModuleId, ModuleState, OutOfMemory};
+use flat_journal::{FlatReply, SetupNo, copied_setup};
+use journal_types::Refusal;
+use ndis_base::{FilterKind, OutOfMemory};
 use std::alloc::Global;
 
 const MAX_FRAME: usize = 1518;
+
 const FAR: u64 = 1 << 60;
 
 /// The order with a filter more.
-fn longer_order(
-    alloc: Global,
-    order: &[u64],
-    position: u8,
-    f: u64,
-) -> Result<Vec<u64>, OutOfMemory>
+fn longer_order(alloc: Global, order: &[u64], position: u8, f: u64) -> Result<Vec<u64>, OutOfMemory>
     requires above { 1 ≤ position }
     requires within { position ≤ length order.now + 1 }
     ensures { IfOk result (λ v. v.items ≡ insert order.now (position - 1) f) }

@@ -52,10 +52,7 @@ fn remove_at<M: MiniportCalls, P: ProtocolCalls, F: FilterCalls>(
     };
     detach_at(&mut book.filters, place);
     rise(&mut book.seats, &mut book.shelf, f, place);
-    book.tray.write_phase(PhaseOf::Module(
-        ModuleId::Filter(f),
-        ModuleState::Detached,
-    ));
+    book.tray.write_phase(PhaseOf::Module(ModuleId::Filter(f), ModuleState::Detached));
     write_order(&mut book.tray, order);
 }
 

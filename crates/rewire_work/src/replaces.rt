@@ -34,12 +34,7 @@ fn swapped(old: u64, new: u64, f: u64) -> u64
 }
 
 /// The order with another filter in the place of one.
-fn swapped_order(
-    alloc: Global,
-    order: &[u64],
-    old: u64,
-    new: u64,
-) -> Result<Vec<u64>, OutOfMemory>
+fn swapped_order(alloc: Global, order: &[u64], old: u64, new: u64) -> Result<Vec<u64>, OutOfMemory>
     ensures { IfOk result (λ v. v.items ≡ map (swapped old new) order.now) }
 {
     let mut other = Vec::new(alloc);
@@ -87,10 +82,7 @@ fn replace_at<M: MiniportCalls, P: ProtocolCalls, F: FilterCalls>(
             detach_at(&mut book.filters, old);
             rise(&mut book.seats, &mut book.shelf, filter, old);
             book.tray.tell_replaced(filter, kind, setup);
-            book.tray.write_phase(PhaseOf::Module(
-                ModuleId::Filter(filter),
-                ModuleState::Detached,
-            ));
+            book.tray.write_phase(PhaseOf::Module(ModuleId::Filter(filter), ModuleState::Detached));
             write_attached(&mut book.tray, new);
             write_order(&mut book.tray, &order);
             Ok(FlatReply::Replaced { filter: new })

@@ -51,10 +51,7 @@ pub fn write_attached(tray: &mut Tray, f: u64)
     requires room { 2 ≤ tray.old.room.rows }
     ensures { tray.new ≡ attaching tray.old f }
 {
-    tray.write_phase(PhaseOf::Module(
-        ModuleId::Filter(f),
-        ModuleState::Attaching,
-    ));
+    tray.write_phase(PhaseOf::Module(ModuleId::Filter(f), ModuleState::Attaching));
     tray.write_phase(PhaseOf::Module(ModuleId::Filter(f), ModuleState::Paused));
 }
 

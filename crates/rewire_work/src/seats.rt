@@ -63,7 +63,11 @@ pub fn first_of_kind<F: FilterCalls>(
     }
 }
 
-fn attach_one<F: FilterCalls>(filter: &mut F, alloc: Global, setup: Setup) -> Result<(), AttachFault>
+fn attach_one<F: FilterCalls>(
+    filter: &mut F,
+    alloc: Global,
+    setup: Setup,
+) -> Result<(), AttachFault>
     requires { MayAttach (F.state filter.old) }
     ensures attached { OnOk result (F.state filter.new ≡ set_up (F.state filter.old) setup) }
     ensures refused { IfErr result (λ fault. fault ≡ Refused → Refuses (F.state filter.old) (F.state filter.new)) }

@@ -1,6 +1,6 @@
-use Rattle.std.proofs.Common.{◌≡◌, ◌+◌, ◌-◌, ◌≤◌, ap, sym, subst, refl, ◌∙◌, arith, map, length}
+use Rattle.std.proofs.Common.{◌+◌, ◌-◌, ◌≤◌, ap, sym, subst, refl, ◌∙◌, arith, map, length}
 use Rattle.std.specs.List.{insert}
-use Rattle.book_lemmas.specs.Views.{BookView, HeldView, filter_at, seat_of}
+use Rattle.book_lemmas.specs.Views.{BookView, filter_at, seat_of}
 use Rattle.book_parts.specs.Parts.{view_of}
 use Rattle.driver_tray.specs.Tray.{TrayView}
 use Rattle.driver_views.specs.States.{FilterState}

@@ -1,4 +1,4 @@
-use Rattle.std.proofs.Common.{◌≡◌, ◌==◌, not, filter, [], ap, sym, subst, refl, ◌∙◌, map, true}
+use Rattle.std.proofs.Common.{◌==◌, not, filter, [], ap, sym, ◌∙◌}
 use Rattle.stack_rules.specs.Pauses.{live_items}
 use Rattle.book_lemmas.specs.Views.{BookView, hands_of}
 use Rattle.book_parts.specs.Parts.{view_of}

@@ -1,4 +1,4 @@
-use Rattle.std.proofs.Common.{◌≡◌, ◌+◌, ◌≤◌, ◌<◌, ap, sym, subst, refl, ◌∙◌, arith, map, length, Some}
+use Rattle.std.proofs.Common.{◌<◌, ap, sym, subst, ◌∙◌, arith, map, length}
 use Rattle.std.proofs.lemmas.List.{length-map}
 use Rattle.order_laws.proofs.Lists.{length-but}
 use Rattle.book_lemmas.specs.Views.{BookView, seat_of}

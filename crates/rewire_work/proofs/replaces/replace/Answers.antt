@@ -1,6 +1,5 @@
-use Rattle.std.proofs.Common.{◌≡◌, [], ap, sym, subst, refl, ◌∙◌, map}
+use Rattle.std.proofs.Common.{[], ap, sym, subst, ◌∙◌, map}
 use Rattle.stack_rules.specs.Pauses.{live_items}
-use Rattle.flat_journal.specs.Payloads.{setup_at}
 use Rattle.book_lemmas.specs.Views.{BookView, hands_of}
 use Rattle.book_parts.specs.Parts.{view_of}
 use Rattle.book_parts.specs.Events.{IsUnmoved}

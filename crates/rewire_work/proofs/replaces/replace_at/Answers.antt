@@ -1,10 +1,10 @@
-use Rattle.std.proofs.Common.{◌≡◌, ◌+◌, ◌≤◌, ◌<◌, ap, sym, subst, refl, ◌∙◌, arith, map, length, Some, List}
+use Rattle.std.proofs.Common.{ap, sym, refl, ◌∙◌, arith, map, length, Some, List}
 use Rattle.std.proofs.lemmas.List.{length-map}
 use Rattle.ndis_base.specs.declared.ModuleId.TheVariants.{Filter}
 use Rattle.ndis_base.specs.declared.ModuleState.TheVariants as state
 use Rattle.stack_rules.specs.Pauses.{state_row}
 use Rattle.stack_rules.specs.Rewires.{swapped}
-use Rattle.book_lemmas.specs.Views.{BookView, HeldView, filter_at, seat_of}
+use Rattle.book_lemmas.specs.Views.{BookView, filter_at, seat_of}
 use Rattle.book_parts.specs.Parts.{view_of}
 use Rattle.driver_tray.specs.Tray.{TrayView, written}
 use Rattle.driver_views.specs.States.{FilterState}

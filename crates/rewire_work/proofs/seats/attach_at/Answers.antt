@@ -1,5 +1,4 @@
-use Rattle.std.proofs.Common.{◌≡◌}
-use Rattle.driver_calls.specs.declared.faults.AttachFault.TheVariants.{Refused, Memory}
+use Rattle.driver_calls.specs.declared.faults.AttachFault.TheVariants.{Memory}
 use Rattle.rewire_work.proofs.Places.{old_at, new_at, set_at, same_at, on_fault}
 use Rattle.rewire_work.proofs.seats.attach_at.Goals as goal
 

@@ -1,7 +1,5 @@
-use Rattle.std.proofs.Common.{ap, sym, ◌∙◌}
-use Rattle.driver_views.specs.States.{FilterState}
 use Rattle.rewire_work.specs.Seated.{put_down}
-use Rattle.rewire_work.proofs.Places.{old_at, took_at}
+use Rattle.rewire_work.proofs.Places.{took_at}
 use Rattle.rewire_work.proofs.seats.detach_at.Goals as goal
 
 pub returns : goal.returns
