@@ -14,7 +14,7 @@ use Rattle.stack_rules.specs.Net.{Net, seen}
 use Rattle.drain_laws.specs.Drains.{NoneCrossed}
 use Rattle.run_laws.specs.Pausing.{pause_to_go, Waits}
 use Rattle.run_laws.specs.Turns.{GoesOn, LeadsTo}
-use Rattle.run_laws.proofs.Calls.{none_cross_untaken}
+use Rattle.run_laws.proofs.Crossing.{none_cross_untaken}
 use Rattle.run_laws.proofs.Pausing.{pauses, drains}
 use Rattle.book_lemmas.specs.Views.{BookView}
 use Rattle.book_runs.specs.Adds.{AddsTurns, EndsTo, pause_leads}
