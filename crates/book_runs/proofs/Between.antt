@@ -44,6 +44,7 @@ worked_unasked event.Drain w = refl
 worked_unasked event.BeginPause w = refl
 worked_unasked event.PauseNext w = refl
 worked_unasked event.RestartNext w = refl
+worked_unasked event.Halt w = refl
 worked_unasked _ w = absurd w
 
 worked_untaken : (e : Event) → IsWorked e → is_take e ≡ false

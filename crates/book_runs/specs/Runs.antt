@@ -16,6 +16,7 @@ use Rattle.script_types.specs.declared.FilterSetup.{FilterSetup}
 use Rattle.promise_rules.specs.declared.Opening.{Opening}
 use Rattle.promise_rules.specs.declared.Opening.TheVariants.{Initialising, Inserting, Opened}
 use Rattle.promise_rules.specs.declared.Ending.TheVariants as ending
+use Rattle.promise_rules.specs.Own.{ending_of}
 use Rattle.stack_rules.specs.Conditions.{is_setup}
 use Rattle.stack_rules.specs.Net.{seen, after_turn}
 use Rattle.stack_rules.specs.Sound.{Next, Sound}
@@ -136,10 +137,10 @@ pub record MakesCall (lane : LaneNo) (e : Event) (pump : Bool) (old new : BookVi
   pub phase_is : new.tray.net.phase ≡ old.tray.net.phase
   pub added : AddsTurns (IsCall lane e pump) old new
 
--- a stack that ran was ended but for its halt
-pub record QuietsStack (old new : BookView) : Type 0 where
-  pub now : IsInPhase new phase.Paused
-  pub added : AddsTurns (EndsTo ending.Pumping ending.Halting) old new
+-- a stack was ended
+pub record EndsStack (old new : BookView) : Type 0 where
+  pub now : IsInPhase new phase.Halted
+  pub added : AddsTurns (EndsTo (ending_of old.tray.net.phase) ending.Ended) old new
 
 -- the events that a call of a script asks for
 abbrev pub MayCall : Event → Type 0

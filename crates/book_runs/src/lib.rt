@@ -1,4 +1,4 @@
-//! A run of one stack: the opening with its filters, the calls with their tails, and the ending but for its halt.
+//! A whole run of one stack: the opening with its filters, the calls with their tails, and the ending.
 #![tactic(auto)]
 
 pub mod answers;
@@ -8,5 +8,5 @@ pub mod ending;
 pub mod opening;
 
 pub use crate::calls::run_call;
-pub use crate::ending::quiet_stack;
+pub use crate::ending::end_stack;
 pub use crate::opening::open_stack;

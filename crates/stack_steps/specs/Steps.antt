@@ -25,6 +25,7 @@ IsWorked event.Drain = Unit {0}
 IsWorked event.BeginPause = Unit {0}
 IsWorked event.PauseNext = Unit {0}
 IsWorked event.RestartNext = Unit {0}
+IsWorked event.Halt = Unit {0}
 IsWorked _ = ⊥
 
 -- a turn was added that may come next, the drivers did what its rows say, and the book is between turns again

@@ -20,6 +20,7 @@ use driver_calls::{FilterCalls, MiniportCalls, ProtocolCalls};
 use driver_tray::First;
 use flat_journal::{FlatEvent, FlatReply};
 use frame_arena::FrameSpan;
+use halt_work::halt;
 use journal_types::{Asked, Event};
 use miniport_work::works::transmit;
 use ndis_base::{ListNo, OutOfMemory, Phase};
@@ -154,6 +155,7 @@ fn work<M: MiniportCalls, P: ProtocolCalls, F: FilterCalls>(
         FlatEvent::BeginPause => begin_pause(book),
         FlatEvent::PauseNext => pause_next(book),
         FlatEvent::RestartNext => restart_next(book),
+        FlatEvent::Halt => halt(book),
         _ => unreachable!(),
     }
 }
