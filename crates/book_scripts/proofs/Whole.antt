@@ -1,0 +1,141 @@
+-- A run, call by call.
+use Rattle.std.proofs.Common.{◌≡◌, ◌≤◌, ◌<◌, ◌-◌, ◌&&◌, ◌==◌, Bool, true, false, List, [], ◌∷◌, ◌++◌, Option, Some, None, length, take, drop, get_or, refl, sym, ap, ap₂, subst, ◌∙◌, arith}
+use Rattle.std.specs.List.{list_all}
+use Rattle.std.proofs.lemmas.List.{append-nil, append_assoc, take_rest}
+use Rattle.ndis_base.specs.declared.Phase.{Phase}
+use Rattle.journal_types.specs.declared.Event.{Event}
+use Rattle.journal_types.specs.declared.Event.TheVariants as event
+use Rattle.journal_types.specs.declared.StackHead.{StackHead}
+use Rattle.journal_types.specs.declared.Turn.{Turn}
+use Rattle.script_types.specs.declared.Call.{Call}
+use Rattle.script_types.specs.declared.FilterSetup.{FilterSetup}
+use Rattle.script_events.specs.Events.{event_of}
+use Rattle.stack_rules.specs.Conditions.{may_ask}
+use Rattle.stack_rules.specs.Net.{Net, seen}
+use Rattle.promise_rules.specs.declared.Opening.TheVariants.{Initialising, Opened}
+use Rattle.promise_rules.specs.declared.Ending.TheVariants as ending
+use Rattle.promise_rules.specs.Own.{ending_of}
+use Rattle.book_lemmas.specs.Turns.{asked_turn}
+use Rattle.book_lemmas.specs.Views.{BookView}
+use Rattle.book_parts.proofs.Ended.{idle_state}
+use Rattle.book_runs.specs.Adds.{Adds, AddsThis, AddsTurns, IsCall, OpensTo, EndsTo, asked_of}
+use Rattle.book_runs.specs.Runs.{IsBetween, MakesCall, MayCall, OpensStack, EndsStack}
+use Rattle.book_runs.proofs.Added.{adds_append, as_kind, both, none_added}
+use Rattle.book_scripts.specs.Scripts.{Makes, MakesAll, MakesOne, MakesEach, IsWhole, RunsWhole, is_asked_call, is_asked_event}
+
+differ : {A : Type 0} → false ≡ true → A
+differ e = absurd (cc)
+
+pub both_true : (a b : Bool) → (a && b) ≡ true → (a ≡ true) × (b ≡ true)
+both_true true true e = (refl, refl)
+both_true true false e = differ e
+both_true false b e = differ e
+
+-- the turn that was added is the journal's last
+turn_is : (t : Turn) (a b : BookView) (x : AddsThis a b t) → asked_turn (asked_of t) t.reply x.adds.rows ≡ t
+turn_is t a b x = ap (asked_turn (asked_of t) t.reply) (sym x.rows)
+
+-- the turns that were added are the journal's last, and the head stays
+pub added_turns : (old new : BookView) (ts : List Turn) → Adds old new ts → new.tray.turns ≡ old.tray.turns ++ ts
+added_turns old new [] p = ap (λ (v : BookView). v.tray.turns) (sym p) ∙ sym (append-nil old.tray.turns)
+added_turns old new (t ∷ ts) p =
+    added_turns p.0 new ts p.2
+    ∙ ap (λ xs. xs ++ ts) (p.1.adds.turns ∙ ap (λ x. old.tray.turns ++ x ∷ []) (turn_is t old p.0 p.1))
+    ∙ append_assoc old.tray.turns (t ∷ []) ts
+
+pub added_head : (old new : BookView) (ts : List Turn) → Adds old new ts → new.tray.head ≡ old.tray.head
+added_head old new [] p = ap (λ (v : BookView). v.tray.head) (sym p)
+added_head old new (t ∷ ts) p = added_head p.0 new ts p.2 ∙ p.1.adds.head
+
+-- a call that can be asked
+pub may_call : (head : StackHead) (e : Event) → is_asked_event head (Some e) ≡ true → MayCall e
+may_call head (event.Send binding cancel frames) h = tt
+may_call head event.Transmit h = tt
+may_call head event.Pump h = tt
+may_call head event.Drain h = tt
+may_call head _ h = differ h
+
+pub may_be_asked : (head : StackHead) (e : Event) → is_asked_event head (Some e) ≡ true → may_ask head e ≡ true
+may_be_asked head (event.Send binding cancel frames) h = h
+may_be_asked head event.Transmit h = refl
+may_be_asked head event.Pump h = refl
+may_be_asked head event.Drain h = refl
+may_be_asked head _ h = differ h
+
+pub asks_event : (head : StackHead) (c : Call) (o : Option Event) → is_asked_call head c ≡ true → o ≡ event_of c.kind → is_asked_event head o ≡ true
+asks_event head c o h is = ap (is_asked_event head) is ∙ (both_true (c.stack == 0) (is_asked_event head (event_of c.kind)) h).1
+
+pub asks_some : (head : StackHead) (o : Option Event) → is_asked_event head o ≡ true → o ≡ None → ⊥
+asks_some head o h is = differ (sym (ap (is_asked_event head) is) ∙ h)
+
+-- a call was made
+pub makes : (c : Call) (e : Event) (x y : BookView) → Some e ≡ event_of c.kind → MakesCall c.lane e c.pump x y → MakesOne c x y
+makes c e x y is m = record {
+  between = m.between;
+  phase_is = m.phase_is;
+  added = as_kind (IsCall c.lane e c.pump) (Makes c) (λ xs p. record { event = e; asked = sym is; is = p }) m.added;
+}
+
+-- a call and the calls after it
+made_all : (c : Call) (cs : List Call) (x y z : BookView) → MakesOne c x y → MakesEach cs y z → MakesEach (c ∷ cs) x z
+made_all c cs x y z p q = record {
+  between = q.between;
+  phase_is = q.phase_is ∙ p.phase_is;
+  added = both (Makes c) (MakesAll cs) (MakesAll (c ∷ cs)) (λ xs ys m n. (xs, ys, refl, m, n)) p.added q.added;
+}
+
+-- the first call and the rest
+first_and_rest : (s : List Call) (c : Call) → 1 ≤ length s → c ≡ get_or s 0 c → c ∷ take (length s - 1) (drop 1 s) ≡ s
+first_and_rest [] c some is = absurd (omega arith)
+first_and_rest (x ∷ s) c some is = ap₂ (λ y ys. y ∷ ys) is (take_rest (x ∷ s) 1)
+
+pub made_first : (s : List Call) (c : Call) (x y z : BookView) → 1 ≤ length s → c ≡ get_or s 0 c → MakesOne c x y → MakesEach (take (length s - 1) (drop 1 s)) y z → MakesEach s x z
+made_first s c x y z some is p q = subst (λ cs. MakesEach cs x z) (first_and_rest s c some is) (made_all c (take (length s - 1) (drop 1 s)) x y z p q)
+
+pub made_none : (s : List Call) (x : BookView) → length s < 1 → IsBetween x → MakesEach s x x
+made_none [] x none k = record { between = k; phase_is = refl; added = none_added (MakesAll []) x refl }
+made_none (c ∷ s) x none k = absurd (omega arith)
+
+-- the calls that are left can be asked too
+pub asked_first : (s : List Call) (c : Call) (head : StackHead) → 1 ≤ length s → c ≡ get_or s 0 c → list_all (is_asked_call head) s ≡ true → is_asked_call head c ≡ true
+asked_first s c head some is h =
+    (both_true (is_asked_call head c) (list_all (is_asked_call head) (take (length s - 1) (drop 1 s))) (ap (list_all (is_asked_call head)) (first_and_rest s c some is) ∙ h)).0
+
+pub asked_rest : (s : List Call) (c : Call) (x y : BookView) → 1 ≤ length s → c ≡ get_or s 0 c → MakesOne c x y → list_all (is_asked_call x.tray.head) s ≡ true → list_all (is_asked_call y.tray.head) (take (length s - 1) (drop 1 s)) ≡ true
+asked_rest s c x y some is m h =
+    ap (λ (head : StackHead). list_all (is_asked_call head) (take (length s - 1) (drop 1 s))) (added_head x y m.added.more m.added.adds)
+    ∙ (both_true (is_asked_call x.tray.head c) (list_all (is_asked_call x.tray.head) (take (length s - 1) (drop 1 s))) (ap (list_all (is_asked_call x.tray.head)) (first_and_rest s c some is) ∙ h)).1
+
+pub asked_opened : (s : List Call) (filters : List FilterSetup) (x y : BookView) → OpensStack filters x y → list_all (is_asked_call x.tray.head) s ≡ true → list_all (is_asked_call y.tray.head) s ≡ true
+asked_opened s filters x y o h = ap (λ (head : StackHead). list_all (is_asked_call head) s) (added_head x y o.added.more o.added.adds) ∙ h
+
+-- an opening, the calls and an ending are a run
+pub runs_whole : (filters : List FilterSetup) (calls : List Call) (a b c d : BookView) → OpensStack filters a b → MakesEach calls b c → EndsStack c d → RunsWhole filters calls a d
+runs_whole filters calls a b c d o m e =
+    let front : Adds a c (o.added.more ++ m.added.more) = adds_append a b c o.added.more m.added.more o.added.adds m.added.adds in
+    let all : Adds a d ((o.added.more ++ m.added.more) ++ e.added.more) = adds_append a c d (o.added.more ++ m.added.more) e.added.more front e.added.adds in
+    let at : c.tray.net ≡ seen a.tray.head (a.tray.turns ++ (o.added.more ++ m.added.more)) =
+    idle_state c m.between.book m.between.idle
+    ∙ ap (λ (h : StackHead). seen h c.tray.turns) (added_head a c (o.added.more ++ m.added.more) front)
+    ∙ ap (seen a.tray.head) (added_turns a c (o.added.more ++ m.added.more) front) in
+    let ends : EndsTo (ending_of (seen a.tray.head (a.tray.turns ++ (o.added.more ++ m.added.more))).phase) ending.Ended e.added.more =
+    subst (λ (n : Net). EndsTo (ending_of n.phase) ending.Ended e.added.more) at e.added.kind in
+    record {
+      now = e.now;
+      head_is = added_head a d ((o.added.more ++ m.added.more) ++ e.added.more) all;
+      added = record {
+        more = (o.added.more ++ m.added.more) ++ e.added.more;
+        adds = all;
+        kind = record {
+          opening = o.added.more;
+          middle = m.added.more;
+          last = e.added.more;
+          left = o.left;
+          split = append_assoc o.added.more m.added.more e.added.more;
+          opens = o.added.kind;
+          made = m.added.kind;
+          ends = ends;
+        };
+      };
+      turns = added_turns a d ((o.added.more ++ m.added.more) ++ e.added.more) all;
+    }

@@ -1,0 +1,16 @@
+use Rattle.book_scripts.proofs.Whole.{asked_opened, runs_whole}
+use Rattle.book_scripts.proofs.Followed.{followed, opened_and_ended}
+use Rattle.book_scripts.proofs.runs.run_stack.Goals as goal
+
+pub returns-clause-whole : goal.returns-clause-whole
+returns-clause-whole g c = runs_whole _ _ _ _ _ _ c.in_ok-open_stack.ensures.opens c.in_ok-run_calls.ensures.made c.in_ok-end_stack.ensures.ends
+
+pub returns-clause-followed : goal.returns-clause-followed
+returns-clause-followed g c stacks lane =
+    followed stacks _ _ _ _ lane c.requires.asked c.requires.fresh
+    (runs_whole _ _ _ _ _ _ c.in_ok-open_stack.ensures.opens c.in_ok-run_calls.ensures.made c.in_ok-end_stack.ensures.ends)
+
+pub returns-clause-ended : goal.returns-clause-ended
+returns-clause-ended g c =
+    opened_and_ended _ _ _ _ c.requires.fresh
+    (runs_whole _ _ _ _ _ _ c.in_ok-open_stack.ensures.opens c.in_ok-run_calls.ensures.made c.in_ok-end_stack.ensures.ends)

@@ -1,0 +1,80 @@
+//! A whole run of one stack: the opening with its filters, the calls with their tails, and the ending.
+ghost use Rattle.std.specs.Prelude.{◌≡◌, ◌≤◌, [], ◌∷◌, true, OnOk, length};
+ghost use Rattle.std.specs.List.{list_all};
+ghost use Rattle.ndis_base.specs.declared.LaneNo.{LaneNo};
+ghost use Rattle.ndis_base.specs.declared.Phase.TheVariants as phase;
+ghost use Rattle.script_types.specs.declared.StackSetup.{StackSetup};
+ghost use Rattle.promise_rules.specs.Followed.{IsFollowed, IsOpenedAndEnded};
+ghost use Rattle.book_parts.specs.Parts.{view_of};
+ghost use Rattle.book_runs.specs.Runs.{IsBetween, IsInPhase, is_fine};
+ghost use Rattle.book_scripts.specs.Scripts.{MakesOne, MakesEach, RunsWhole, is_asked_call};
+
+use book_parts::BookParts;
+use book_runs::{end_stack, open_stack, run_call};
+use driver_calls::{FilterCalls, MiniportCalls, ProtocolCalls};
+use ndis_base::OutOfMemory;
+use script_events::event_of_call;
+use script_types::{Call, FilterSetup};
+use std::alloc::Global;
+
+/// Makes one call, and its tail.
+fn run_one<M: MiniportCalls, P: ProtocolCalls, F: FilterCalls>(
+    book: &mut BookParts<M, P, F>,
+    alloc: Global,
+    call: &Call,
+) -> Result<(), OutOfMemory>
+    requires between { IsBetween (view_of M.state P.state F.state book.old) }
+    requires asked { is_asked_call (view_of M.state P.state F.state book.old).tray.head call.now ≡ true }
+    ensures between { IsBetween (view_of M.state P.state F.state book.new) }
+    ensures made { OnOk result (MakesOne call.now (view_of M.state P.state F.state book.old) (view_of M.state P.state F.state book.new)) }
+{
+    let Some(event) = event_of_call(alloc, &call.kind)? else {
+        unreachable!()
+    };
+    run_call(book, alloc, call.lane, event, call.pump)?;
+    Ok(())
+}
+
+/// Makes calls in order, each with its tail.
+fn run_calls<M: MiniportCalls, P: ProtocolCalls, F: FilterCalls>(
+    book: &mut BookParts<M, P, F>,
+    alloc: Global,
+    calls: &[Call],
+) -> Result<(), OutOfMemory>
+    requires between { IsBetween (view_of M.state P.state F.state book.old) }
+    requires asked { list_all (is_asked_call (view_of M.state P.state F.state book.old).tray.head) calls.now ≡ true }
+    ensures between { IsBetween (view_of M.state P.state F.state book.new) }
+    ensures made { OnOk result (MakesEach calls.now (view_of M.state P.state F.state book.old) (view_of M.state P.state F.state book.new)) }
+{
+    let [call, others @ ..] = calls else {
+        return Ok(());
+    };
+    run_one(book, alloc, call)?;
+    run_calls(book, alloc, others)?;
+    Ok(())
+}
+
+/// Runs a stack that was just opened: it is initialised, these filters are inserted and it is restarted; the calls are
+/// made in order, each with its tail; and it is ended. Each lane's calls stand in the journal once and in order, each
+/// with its tail, between the opening and the ending.
+pub fn run_stack<M: MiniportCalls, P: ProtocolCalls, F: FilterCalls>(
+    book: &mut BookParts<M, P, F>,
+    alloc: Global,
+    filters: &[FilterSetup],
+    calls: &[Call],
+) -> Result<(), OutOfMemory>
+    requires halted { IsInPhase (view_of M.state P.state F.state book.old) phase.Halted }
+    requires fresh { (view_of M.state P.state F.state book.old).tray.turns ≡ [] }
+    requires few { length filters.now ≤ 16 }
+    requires fine { list_all is_fine filters.now ≡ true }
+    requires asked { list_all (is_asked_call (view_of M.state P.state F.state book.old).tray.head) calls.now ≡ true }
+    ensures between { IsBetween (view_of M.state P.state F.state book.new) }
+    ensures whole { OnOk result (RunsWhole filters.now calls.now (view_of M.state P.state F.state book.old) (view_of M.state P.state F.state book.new)) }
+    ensures followed { OnOk result ((stacks : List StackSetup) → (lane : LaneNo) → IsFollowed stacks lane calls.now ((view_of M.state P.state F.state book.new).tray.turns ∷ [])) }
+    ensures ended { OnOk result (IsOpenedAndEnded (view_of M.state P.state F.state book.old).tray.head filters.now (view_of M.state P.state F.state book.new).tray.turns) }
+{
+    open_stack(book, alloc, filters)?;
+    run_calls(book, alloc, calls)?;
+    end_stack(book, alloc)?;
+    Ok(())
+}
