@@ -1,6 +1,6 @@
 -- Whom a row calls by which a list is home: the list's Issue row shows the direction that the state before that row
 -- tells. And what every row stands for.
-use Rattle.std.proofs.Common.{◌≡◌, ℕ, List, ◌∷◌, ◌++◌, Option, Some, None, find, ap, ap₂, sym, subst, append_assoc, refl, ◌∙◌}
+use Rattle.std.proofs.Common.{◌≡◌, List, ◌∷◌, ◌++◌, Option, Some, None, ap, ap₂, sym, subst, append_assoc, refl, ◌∙◌}
 use Rattle.ndis_base.specs.declared.Direction.{Direction}
 use Rattle.ndis_base.specs.declared.Direction.TheVariants as direction
 use Rattle.ndis_base.specs.declared.ListNo.{ListNo}
