@@ -1,0 +1,5 @@
+pub mod Finds
+pub mod Asked
+pub mod Dones
+pub mod Homes
+pub mod Served
