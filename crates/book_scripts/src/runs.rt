@@ -7,6 +7,7 @@ ghost use Rattle.script_types.specs.declared.StackSetup.{StackSetup};
 ghost use Rattle.promise_rules.specs.Followed.{IsFollowed, IsOpenedAndEnded};
 ghost use Rattle.book_parts.specs.Parts.{view_of};
 ghost use Rattle.book_runs.specs.Runs.{IsBetween, IsInPhase, is_fine};
+ghost use Rattle.book_scripts.specs.Laws.{MeetsLaws};
 ghost use Rattle.book_scripts.specs.Scripts.{MakesOne, MakesEach, RunsWhole, is_asked_call};
 
 use book_parts::BookParts;
@@ -56,7 +57,7 @@ fn run_calls<M: MiniportCalls, P: ProtocolCalls, F: FilterCalls>(
 
 /// Runs a stack that was just opened: it is initialised, these filters are inserted and it is restarted; the calls are
 /// made in order, each with its tail; and it is ended. Each lane's calls stand in the journal once and in order, each
-/// with its tail, between the opening and the ending.
+/// with its tail, between the opening and the ending; and the laws of sound journals hold of it.
 pub fn run_stack<M: MiniportCalls, P: ProtocolCalls, F: FilterCalls>(
     book: &mut BookParts<M, P, F>,
     alloc: Global,
@@ -71,6 +72,7 @@ pub fn run_stack<M: MiniportCalls, P: ProtocolCalls, F: FilterCalls>(
     ensures between { IsBetween (view_of M.state P.state F.state book.new) }
     ensures whole { OnOk result (RunsWhole filters.now calls.now (view_of M.state P.state F.state book.old) (view_of M.state P.state F.state book.new)) }
     ensures followed { OnOk result ((stacks : List StackSetup) → (lane : LaneNo) → IsFollowed stacks lane calls.now ((view_of M.state P.state F.state book.new).tray.turns ∷ [])) }
+    ensures laws { OnOk result (MeetsLaws (view_of M.state P.state F.state book.old).tray.head (view_of M.state P.state F.state book.new).tray.turns) }
     ensures ended { OnOk result (IsOpenedAndEnded (view_of M.state P.state F.state book.old).tray.head filters.now (view_of M.state P.state F.state book.new).tray.turns) }
 {
     open_stack(book, alloc, filters)?;

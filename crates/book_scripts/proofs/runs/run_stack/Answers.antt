@@ -1,5 +1,6 @@
 use Rattle.book_scripts.proofs.Whole.{asked_opened, runs_whole}
 use Rattle.book_scripts.proofs.Followed.{followed, opened_and_ended}
+use Rattle.book_scripts.proofs.Laws.{run_meets_laws}
 use Rattle.book_scripts.proofs.runs.run_stack.Goals as goal
 
 pub returns-clause-whole : goal.returns-clause-whole
@@ -14,3 +15,7 @@ pub returns-clause-ended : goal.returns-clause-ended
 returns-clause-ended g c =
     opened_and_ended _ _ _ _ c.requires.fresh
     (runs_whole _ _ _ _ _ _ c.in_ok-open_stack.ensures.opens c.in_ok-run_calls.ensures.made c.in_ok-end_stack.ensures.ends)
+
+pub returns-clause-laws : goal.returns-clause-laws
+returns-clause-laws g c =
+    run_meets_laws _ _ _ _ (runs_whole _ _ _ _ _ _ c.in_ok-open_stack.ensures.opens c.in_ok-run_calls.ensures.made c.in_ok-end_stack.ensures.ends)
