@@ -1,0 +1,9 @@
+pub mod Asked
+pub mod Halting
+pub mod Leaving
+pub mod Protocols
+pub mod Rises
+pub mod Shut
+pub mod Sitting
+pub mod Written
+pub mod Wrote
