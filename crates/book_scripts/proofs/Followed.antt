@@ -32,7 +32,7 @@ use Rattle.promise_rules.specs.Own.{opening_after, filters_after, ending_of, end
 use Rattle.promise_rules.specs.Followed.{is_of_lane, next_turn, after_next, link_of, Follows, done, other, called, helped, IsFollowed, IsOpenedAndEnded}
 use Rattle.promise_rules.specs.Followed as promised
 use Rattle.book_lemmas.specs.Views.{BookView}
-use Rattle.book_runs.specs.Adds.{AreMoves, ArePumps, IsTail, IsCall, OpensTo, EndsTo, is_refused}
+use Rattle.book_runs.specs.Adds.{Told, AreMoves, ArePumps, IsTail, IsCall, OpensTo, EndsTo, is_refused}
 use Rattle.book_scripts.specs.Scripts.{Makes, MakesAll, IsWhole, RunsWhole, is_asked_call, is_asked_event}
 use Rattle.book_scripts.proofs.Whole.{both_true}
 

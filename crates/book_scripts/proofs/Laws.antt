@@ -37,11 +37,14 @@ meets_laws head turns s at = record {
   completed = all_are_done head turns s at;
 }
 
--- so the journal of a whole run meets them
+-- the journal of a whole run is sound
+pub run_is_sound : (filters : List FilterSetup) (calls : List Call) (a b : BookView) → RunsWhole filters calls a b → Sound a.tray.head b.tray.turns
+run_is_sound filters calls a b w = subst (λ (h : StackHead). Sound h b.tray.turns) w.head_is w.now.between.book.follows.sound
+
+-- and so it meets the laws
 pub run_meets_laws : (filters : List FilterSetup) (calls : List Call) (a b : BookView) → RunsWhole filters calls a b → MeetsLaws a.tray.head b.tray.turns
 run_meets_laws filters calls a b w =
     let k : IsBetween b = w.now.between in
-    let sound : Sound a.tray.head b.tray.turns = subst (λ (h : StackHead). Sound h b.tray.turns) w.head_is k.book.follows.sound in
     let at : (seen a.tray.head b.tray.turns).phase ≡ phase.Halted =
     ap (λ (h : StackHead). (seen h b.tray.turns).phase) (sym w.head_is) ∙ sym (ap (λ (n : Net). n.phase) (idle_state b k.book k.idle)) ∙ w.now.phase_is in
-    meets_laws a.tray.head b.tray.turns sound at
+    meets_laws a.tray.head b.tray.turns (run_is_sound filters calls a b w) at

@@ -1,3 +1,4 @@
 pub mod Whole
 pub mod Followed
 pub mod Laws
+pub mod Served

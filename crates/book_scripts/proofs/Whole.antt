@@ -47,31 +47,11 @@ pub added_head : (old new : BookView) (ts : List Turn) → Adds old new ts → n
 added_head old new [] p = ap (λ (v : BookView). v.tray.head) (sym p)
 added_head old new (t ∷ ts) p = added_head p.0 new ts p.2 ∙ p.1.adds.head
 
--- a call that can be asked
-pub may_call : (head : StackHead) (e : Event) → is_asked_event head (Some e) ≡ true → MayCall e
-may_call head (event.Send binding cancel frames) h = tt
-may_call head event.Transmit h = tt
-may_call head event.Pump h = tt
-may_call head event.Drain h = tt
-may_call head _ h = differ h
-
-pub may_be_asked : (head : StackHead) (e : Event) → is_asked_event head (Some e) ≡ true → may_ask head e ≡ true
-may_be_asked head (event.Send binding cancel frames) h = h
-may_be_asked head event.Transmit h = refl
-may_be_asked head event.Pump h = refl
-may_be_asked head event.Drain h = refl
-may_be_asked head _ h = differ h
-
-pub asks_event : (head : StackHead) (c : Call) (o : Option Event) → is_asked_call head c ≡ true → o ≡ event_of c.kind → is_asked_event head o ≡ true
-asks_event head c o h is = ap (is_asked_event head) is ∙ (both_true (c.stack == 0) (is_asked_event head (event_of c.kind)) h).1
-
-pub asks_some : (head : StackHead) (o : Option Event) → is_asked_event head o ≡ true → o ≡ None → ⊥
-asks_some head o h is = differ (sym (ap (is_asked_event head) is) ∙ h)
-
 -- a call was made
 pub makes : (c : Call) (e : Event) (x y : BookView) → Some e ≡ event_of c.kind → MakesCall c.lane e c.pump x y → MakesOne c x y
 makes c e x y is m = record {
   between = m.between;
+  head_is = added_head x y m.added.more m.added.adds;
   phase_is = m.phase_is;
   added = as_kind (IsCall c.lane e c.pump) (Makes c) (λ xs p. record { event = e; asked = sym is; is = p }) m.added;
 }
@@ -80,6 +60,7 @@ makes c e x y is m = record {
 made_all : (c : Call) (cs : List Call) (x y z : BookView) → MakesOne c x y → MakesEach cs y z → MakesEach (c ∷ cs) x z
 made_all c cs x y z p q = record {
   between = q.between;
+  head_is = q.head_is ∙ p.head_is;
   phase_is = q.phase_is ∙ p.phase_is;
   added = both (Makes c) (MakesAll cs) (MakesAll (c ∷ cs)) (λ xs ys m n. (xs, ys, refl, m, n)) p.added q.added;
 }
@@ -93,19 +74,10 @@ pub made_first : (s : List Call) (c : Call) (x y z : BookView) → 1 ≤ length 
 made_first s c x y z some is p q = subst (λ cs. MakesEach cs x z) (first_and_rest s c some is) (made_all c (take (length s - 1) (drop 1 s)) x y z p q)
 
 pub made_none : (s : List Call) (x : BookView) → length s < 1 → IsBetween x → MakesEach s x x
-made_none [] x none k = record { between = k; phase_is = refl; added = none_added (MakesAll []) x refl }
+made_none [] x none k = record { between = k; head_is = refl; phase_is = refl; added = none_added (MakesAll []) x refl }
 made_none (c ∷ s) x none k = absurd (omega arith)
 
--- the calls that are left can be asked too
-pub asked_first : (s : List Call) (c : Call) (head : StackHead) → 1 ≤ length s → c ≡ get_or s 0 c → list_all (is_asked_call head) s ≡ true → is_asked_call head c ≡ true
-asked_first s c head some is h =
-    (both_true (is_asked_call head c) (list_all (is_asked_call head) (take (length s - 1) (drop 1 s))) (ap (list_all (is_asked_call head)) (first_and_rest s c some is) ∙ h)).0
-
-pub asked_rest : (s : List Call) (c : Call) (x y : BookView) → 1 ≤ length s → c ≡ get_or s 0 c → MakesOne c x y → list_all (is_asked_call x.tray.head) s ≡ true → list_all (is_asked_call y.tray.head) (take (length s - 1) (drop 1 s)) ≡ true
-asked_rest s c x y some is m h =
-    ap (λ (head : StackHead). list_all (is_asked_call head) (take (length s - 1) (drop 1 s))) (added_head x y m.added.more m.added.adds)
-    ∙ (both_true (is_asked_call x.tray.head c) (list_all (is_asked_call x.tray.head) (take (length s - 1) (drop 1 s))) (ap (list_all (is_asked_call x.tray.head)) (first_and_rest s c some is) ∙ h)).1
-
+-- the calls can be asked of the opened stack too
 pub asked_opened : (s : List Call) (filters : List FilterSetup) (x y : BookView) → OpensStack filters x y → list_all (is_asked_call x.tray.head) s ≡ true → list_all (is_asked_call y.tray.head) s ≡ true
 asked_opened s filters x y o h = ap (λ (head : StackHead). list_all (is_asked_call head) s) (added_head x y o.added.more o.added.adds) ∙ h
 

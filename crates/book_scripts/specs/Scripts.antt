@@ -40,14 +40,16 @@ abbrev pub MakesAll : List Call → List Turn → Type 0
 MakesAll [] turns = turns ≡ []
 MakesAll (c ∷ cs) turns = (first : List Turn) × (rest : List Turn) × (turns ≡ first ++ rest) × Makes c first × MakesAll cs rest
 
--- a call was made, or these calls were: the phase stays
+-- a call was made, or these calls were: head and phase stay
 pub record MakesOne (call : Call) (old new : BookView) : Type 0 where
   pub between : IsBetween new
+  pub head_is : new.tray.head ≡ old.tray.head
   pub phase_is : new.tray.net.phase ≡ old.tray.net.phase
   pub added : AddsTurns (Makes call) old new
 
 pub record MakesEach (calls : List Call) (old new : BookView) : Type 0 where
   pub between : IsBetween new
+  pub head_is : new.tray.head ≡ old.tray.head
   pub phase_is : new.tray.net.phase ≡ old.tray.net.phase
   pub added : AddsTurns (MakesAll calls) old new
 

@@ -1,4 +1,4 @@
-use Rattle.book_scripts.proofs.Whole.{asked_first, asked_rest, made_first, made_none}
+use Rattle.book_scripts.proofs.Whole.{made_first, made_none}
 use Rattle.book_scripts.proofs.runs.+run_calls.Goals as goal
 
 pub returns-in_default-clause-made : goal.returns-in_default-clause-made
