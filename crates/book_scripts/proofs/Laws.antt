@@ -1,5 +1,5 @@
 -- The laws at the journal of a whole run.
-use Rattle.std.proofs.Common.{◌≡◌, List, ◌++◌, ap, sym, subst, ◌∙◌}
+use Rattle.std.proofs.Common.{◌≡◌, List, ap, sym, subst, ◌∙◌}
 use Rattle.ndis_base.specs.declared.Phase.TheVariants as phase
 use Rattle.journal_types.specs.declared.StackHead.{StackHead}
 use Rattle.journal_types.specs.declared.Turn.{Turn}

@@ -1,5 +1,5 @@
 -- The drivers of a run count and log what its journal tells.
-use Rattle.std.proofs.Common.{◌≡◌, ℕ, ◌+◌, Bool, List, [], ◌∷◌, ◌++◌, count_by, flat_map, slice_index_or, refl, sym, ap, ◌∙◌, subst, arith, append_assoc, append-nil}
+use Rattle.std.proofs.Common.{◌≡◌, ℕ, ◌+◌, List, [], ◌∷◌, ◌++◌, count_by, flat_map, slice_index_or, refl, sym, ap, ◌∙◌, subst, arith, append_assoc, append-nil}
 use Rattle.ndis_base.specs.declared.ModuleId.{ModuleId}
 use Rattle.ndis_base.specs.declared.ModuleId.TheVariants.{Miniport, Binding}
 use Rattle.journal_types.specs.declared.Row.{Row}
@@ -12,7 +12,7 @@ use Rattle.stack_rules.specs.Sound.{Sound}
 use Rattle.rule_basics.proofs.Counts.{count_by-append}
 use Rattle.home_laws.specs.Rows.{rows_of}
 use Rattle.promise_rules.specs.declared.Called.{Called}
-use Rattle.promise_rules.specs.Calls.{is_call_of, logged_at, served, log_of}
+use Rattle.promise_rules.specs.Calls.{is_call_of, logged_at}
 use Rattle.driver_views.specs.States.{Record, times}
 use Rattle.book_lemmas.specs.Did.{Did, IsServed, calls_in, calls_of, logs_in}
 use Rattle.book_lemmas.specs.Views.{BookView, HeldView, no_protocol}

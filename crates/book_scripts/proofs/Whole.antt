@@ -1,27 +1,23 @@
 -- A run, call by call.
-use Rattle.std.proofs.Common.{◌≡◌, ◌≤◌, ◌<◌, ◌-◌, ◌&&◌, ◌==◌, Bool, true, false, List, [], ◌∷◌, ◌++◌, Option, Some, None, length, take, drop, get_or, refl, sym, ap, ap₂, subst, ◌∙◌, arith}
+use Rattle.std.proofs.Common.{◌≡◌, ◌≤◌, ◌<◌, ◌-◌, ◌&&◌, Bool, true, false, List, [], ◌∷◌, ◌++◌, Some, length, take, drop, get_or, refl, sym, ap, ap₂, subst, ◌∙◌, arith}
 use Rattle.std.specs.List.{list_all}
 use Rattle.std.proofs.lemmas.List.{append-nil, append_assoc, take_rest}
-use Rattle.ndis_base.specs.declared.Phase.{Phase}
 use Rattle.journal_types.specs.declared.Event.{Event}
-use Rattle.journal_types.specs.declared.Event.TheVariants as event
 use Rattle.journal_types.specs.declared.StackHead.{StackHead}
 use Rattle.journal_types.specs.declared.Turn.{Turn}
 use Rattle.script_types.specs.declared.Call.{Call}
 use Rattle.script_types.specs.declared.FilterSetup.{FilterSetup}
 use Rattle.script_events.specs.Events.{event_of}
-use Rattle.stack_rules.specs.Conditions.{may_ask}
 use Rattle.stack_rules.specs.Net.{Net, seen}
-use Rattle.promise_rules.specs.declared.Opening.TheVariants.{Initialising, Opened}
 use Rattle.promise_rules.specs.declared.Ending.TheVariants as ending
 use Rattle.promise_rules.specs.Own.{ending_of}
 use Rattle.book_lemmas.specs.Turns.{asked_turn}
 use Rattle.book_lemmas.specs.Views.{BookView}
 use Rattle.book_parts.proofs.Ended.{idle_state}
-use Rattle.book_runs.specs.Adds.{Adds, AddsThis, AddsTurns, IsCall, OpensTo, EndsTo, asked_of}
-use Rattle.book_runs.specs.Runs.{IsBetween, MakesCall, MayCall, OpensStack, EndsStack}
+use Rattle.book_runs.specs.Adds.{Adds, AddsThis, IsCall, EndsTo, asked_of}
+use Rattle.book_runs.specs.Runs.{IsBetween, MakesCall, OpensStack, EndsStack}
 use Rattle.book_runs.proofs.Added.{adds_append, as_kind, both, none_added}
-use Rattle.book_scripts.specs.Scripts.{Makes, MakesAll, MakesOne, MakesEach, IsWhole, RunsWhole, is_asked_call, is_asked_event}
+use Rattle.book_scripts.specs.Scripts.{Makes, MakesAll, MakesOne, MakesEach, RunsWhole, is_asked_call}
 
 differ : {A : Type 0} → false ≡ true → A
 differ e = absurd (cc)

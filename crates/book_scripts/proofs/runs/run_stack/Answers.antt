@@ -5,7 +5,7 @@ use Rattle.book_scripts.proofs.Served.{run_served}
 use Rattle.book_scripts.proofs.runs.run_stack.Goals as goal
 
 pub run_calls-requires-clause-asked : goal.run_calls-requires-clause-asked
-run_calls-requires-clause-asked g c = asked_opened _ _ _ _ c.in_ok-open_stack.ensures.opens c.requires.asked
+run_calls-requires-clause-asked g c = asked_opened c.args.calls.now c.args.filters.now _ _ c.in_ok-open_stack.ensures.opens c.requires.asked
 
 pub returns-clause-whole : goal.returns-clause-whole
 returns-clause-whole g c = runs_whole _ _ _ _ _ _ c.in_ok-open_stack.ensures.opens c.in_ok-run_calls.ensures.made c.in_ok-end_stack.ensures.ends
