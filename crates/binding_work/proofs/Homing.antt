@@ -171,7 +171,7 @@ home_event old t mid binding l status s' k i b turns begins spends sent =
     let outcome_is = pump_is old.tray.net o.x false o.first in
     record {
       did = did_event old _ rows event.Pump any_choice reply.Moved k i ends (sym (ap (λ (q : Outcome). q.reply) outcome_is))
-          (home_is old.tray.net o.x l status m o.same o.owner o.alone ∙ ap (λ st. moved_rows old.tray.net o.x st false) (sym o.stands) ∙ sym (ap (λ (q : Outcome). q.rows) outcome_is)) refl;
+          (home_is old.tray.net o.x l status m o.same o.owner o.alone ∙ ap (λ st. moved_rows old.tray.net o.x st false) (sym o.stands) ∙ sym (ap (λ (q : Outcome). q.rows) outcome_is)) refl tt (refl, refl);
       turn = record { room = omega (arith, turns, did.used.turns) };
     }
 

@@ -106,6 +106,6 @@ one_event old t mid b l s' k i bound turns begins running taken kind r =
       did = did_event old _ _ event.Pump choice reply.Moved k i ends (sym (ap (λ (q : Outcome). q.reply) outcome_is))
           (ap (λ (q : Net). one_rows q b does keeps (in_hand l)) begins.net ∙ rows_is
           ∙ ap (λ run. cond run (delivery_rows old.tray.net n.x keeps) (turned_back old.tray.net.modules n.x (Binding 0) Paused)) (sym run)
-          ∙ ap (λ st. moved_rows old.tray.net n.x st keeps) (sym n.stand) ∙ sym (ap (λ (q : Outcome). q.rows) outcome_is)) refl;
+          ∙ ap (λ st. moved_rows old.tray.net n.x st keeps) (sym n.stand) ∙ sym (ap (λ (q : Outcome). q.rows) outcome_is)) refl tt (refl, refl);
       turn = record { room = omega (arith, turns, settled_is.in_call.used.turns) };
     }

@@ -196,7 +196,7 @@ started_event old t mid binding cancel made k i running b sized r s some =
     record {
       did = did_event old _ _ (event.Send binding cancel made) any_choice (reply.Sent (list_no t.net.next.list)) k i ends
           (ap (λ (n : Net). reply.Sent (list_no n.next.list)) r.begins.net ∙ sym (ap (λ (o : Outcome). o.reply) outcome_is))
-          (ap (λ (n : Net). sent n binding cancel made) r.begins.net ∙ sym (ap (λ (o : Outcome). o.rows) outcome_is)) refl;
+          (ap (λ (n : Net). sent n binding cancel made) r.begins.net ∙ sym (ap (λ (o : Outcome). o.rows) outcome_is)) refl tt (refl, refl);
       turn = record { room = omega (arith, r.turns, call.used.turns) };
     }
 
@@ -209,7 +209,7 @@ lacked_event old t binding cancel made k i running b r full =
     let outcome_is = outcome_by old.tray.net binding cancel made true true (ap phase_is_running running)
     (full_at old m k b.there ∙ eq-eqb (live_count (held_pool old.held m)) (held_pool old.held m).size full) in
     record {
-      did = did_event old _ [] (event.Send binding cancel made) any_choice (reply.Refused refusal.NoList) k i ends (sym (ap (λ (o : Outcome). o.reply) outcome_is)) (sym (ap (λ (o : Outcome). o.rows) outcome_is)) refl;
+      did = did_event old _ [] (event.Send binding cancel made) any_choice (reply.Refused refusal.NoList) k i ends (sym (ap (λ (o : Outcome). o.reply) outcome_is)) (sym (ap (λ (o : Outcome). o.rows) outcome_is)) refl tt (refl, refl);
       turn = record { room = r.turns };
     }
 
@@ -252,6 +252,6 @@ paused_event old t binding cancel made p k i same other roomed =
     let outcome_is = outcome_by old.tray.net binding cancel made false (is_full old.tray.net (Binding binding)) still refl in
     record {
       did = did_event old _ [] (event.Send binding cancel made) any_choice (reply.Refused (refusal.Paused p)) k i (ends_still t k roomed.begins)
-          (ap (λ q. reply.Refused (refusal.Paused q)) same ∙ sym (ap (λ (o : Outcome). o.reply) outcome_is)) (sym (ap (λ (o : Outcome). o.rows) outcome_is)) refl;
+          (ap (λ q. reply.Refused (refusal.Paused q)) same ∙ sym (ap (λ (o : Outcome). o.reply) outcome_is)) (sym (ap (λ (o : Outcome). o.rows) outcome_is)) refl tt (refl, refl);
       turn = record { room = roomed.turns };
     }

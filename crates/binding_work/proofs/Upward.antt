@@ -103,7 +103,7 @@ back_event old t l running k i turns begins phase none =
       did = did_event old _ _ event.Pump any_choice reply.Moved k i ends (sym (ap (λ (q : Outcome). q.reply) outcome_is))
           (ap (λ (q : Net). back_rows q running (in_hand l)) begins.net
           ∙ up_is old.tray.net n.x l running same phase (λ e. ap (λ (c : Common). takers old.tray.net c.frames) same ∙ none e)
-          ∙ ap (λ st. moved_rows old.tray.net n.x st false) (sym n.stand) ∙ sym (ap (λ (q : Outcome). q.rows) outcome_is)) refl;
+          ∙ ap (λ st. moved_rows old.tray.net n.x st false) (sym n.stand) ∙ sym (ap (λ (q : Outcome). q.rows) outcome_is)) refl tt (refl, refl);
       turn = record { room = omega (arith, turns, call.used.turns) };
     }
   where

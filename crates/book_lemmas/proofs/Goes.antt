@@ -14,6 +14,7 @@ use Rattle.driver_views.specs.States.{Record}
 use Rattle.book_lemmas.specs.Did.{calls_now, calls_in, logs_in, IsServed, Did}
 use Rattle.book_lemmas.specs.Turns.{Goes, HasUsed, row_frames, is_way}
 use Rattle.driver_tray.specs.Tray.{TrayView}
+use Rattle.book_lemmas.proofs.Keeps.{keeps_none, keeps_then}
 
 pub after_rows-append : (net : Net) (xs ys : List Row) → after_rows net (xs ++ ys) ≡ after_rows (after_rows net xs) ys
 after_rows-append net [] ys = refl
@@ -46,6 +47,7 @@ did_none seats held net = record {
   protocols = λ i. served_none _ net _;
   filters = λ f place seat. served_none _ net _;
   shelved = λ place none. record { calls = λ what. refl; log = refl };
+  keeps = keeps_none held;
 }
 
 pub did_then : (seats : List (ℕ × ℕ)) (a b c : HeldView) (net : Net) (xs ys : List Row) → Did seats a b net xs → Did seats b c (after_rows net xs) ys → Did seats a c net (xs ++ ys)
@@ -54,6 +56,7 @@ did_then seats a b c net xs ys s t = record {
   protocols = λ i. served_then _ net xs ys _ _ _ (s.protocols i) (t.protocols i);
   filters = λ f place seat. served_then _ net xs ys _ _ _ (s.filters f place seat) (t.filters f place seat);
   shelved = λ place none. record { calls = λ what. (t.shelved place none).calls what ∙ (s.shelved place none).calls what; log = (t.shelved place none).log ∙ (s.shelved place none).log };
+  keeps = keeps_then a b c s.keeps t.keeps;
 }
 
 pub used_none : (t : TrayView) → HasUsed t [] t

@@ -1,6 +1,6 @@
 -- What drivers of every kind did while rows were written: how often they were called and what their logs show. The
 -- calls of a row are told by the state before it, in the words in which calls are promised of journals.
-use Rattle.std.specs.Prelude.{◌≡◌, ℕ, ◌+◌, List, [], ◌∷◌, ◌++◌, Option, Some, None, count_by, flat_map, slice_index_or}
+use Rattle.std.specs.Prelude.{◌≡◌, ℕ, ◌+◌, ◌≤◌, List, [], ◌∷◌, ◌++◌, Option, Some, None, count_by, flat_map, map, slice_index_or}
 use Rattle.ndis_base.specs.declared.Direction.{Direction}
 use Rattle.ndis_base.specs.declared.Direction.TheVariants as direction
 use Rattle.ndis_base.specs.declared.ModuleId.{ModuleId}
@@ -75,9 +75,16 @@ pub record IsIdle (old new : Record) : Type 0 where
   pub calls : (what : Called) → times new.served what ≡ times old.served what
   pub log : new.log ≡ old.log
 
+-- no driver's count of refusals fell, and the filters' drivers are of the kinds that they were
+pub record KeepsCounts (old new : HeldView) : Type 0 where
+  pub miniport : old.miniport.refusals ≤ new.miniport.refusals
+  pub filters : (place : ℕ) → (filter_at old.filters (Some place)).refusals ≤ (filter_at new.filters (Some place)).refusals
+  pub kinds : map (λ s. s.kind) new.filters ≡ map (λ s. s.kind) old.filters
+
 -- the drivers did what the rows say, and nothing else; the filters by the seats that they had as the turn began
 pub record Did (seats : List (ℕ × ℕ)) (old new : HeldView) (net : Net) (rows : List Row) : Type 0 where
   pub miniport : IsServed Miniport net rows old.miniport.did new.miniport.did
   pub protocols : (i : ℕ) → IsServed (Binding i) net rows (slice_index_or old.protocols i no_protocol).did (slice_index_or new.protocols i no_protocol).did
   pub filters : (f place : ℕ) → seat_of seats f ≡ Some place → IsServed (Filter f) net rows (filter_at old.filters (Some place)).did (filter_at new.filters (Some place)).did
   pub shelved : (place : ℕ) → IsVacant seats place → IsIdle (filter_at old.filters (Some place)).did (filter_at new.filters (Some place)).did
+  pub keeps : KeepsCounts old new

@@ -12,6 +12,8 @@ use Rattle.stack_rules.specs.Net.{seen, told, after_rows}
 use Rattle.stack_rules.specs.Sound.{Next}
 use Rattle.book_lemmas.specs.Views.{BookView}
 use Rattle.book_lemmas.specs.Did.{Did}
+use Rattle.book_lemmas.specs.Shelves.{Balks}
+use Rattle.book_lemmas.specs.Stands.{IsShelved}
 use Rattle.driver_tray.specs.Tray.{TrayView}
 
 -- the frames that a row shows
@@ -50,7 +52,8 @@ pub record Goes (seats : List (ℕ × ℕ)) (old new : BookView) (more : List Ro
 abbrev pub asked_turn : Asked → Reply → List Row → Turn
 asked_turn asked answer rows = record { who = asked.who; event = asked.event; reply = answer; rows = rows }
 
--- one turn was added, which may come next, and the drivers did what its rows say
+-- one turn was added, which may come next, and the drivers did what its rows say; where one refused it counted that; and
+-- shelf and seats are those that are promised of the journal, where they were before
 pub record AddsTurn (old new : BookView) (asked : Asked) (answer : Reply) : Type 0 where
   pub rows : List Row
   pub next : Next (seen old.tray.head old.tray.turns) (asked_turn asked answer rows)
@@ -59,3 +62,5 @@ pub record AddsTurn (old new : BookView) (asked : Asked) (answer : Reply) : Type
   pub idle : new.tray.rows ≡ []
   pub untold : new.tray.told_by ≡ None
   pub did : Did old.held.seats old.held new.held (told (seen old.tray.head old.tray.turns) asked.event answer) rows
+  pub refused : Balks asked.event answer old.held new.held
+  pub shelved : IsShelved old.tray.net old.tray.turns old.held → IsShelved new.tray.net new.tray.turns new.held

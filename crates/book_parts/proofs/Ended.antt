@@ -15,6 +15,7 @@ use Rattle.driver_tray.specs.Tray.{TrayView, begun_by, turn_of, ended}
 use Rattle.book_lemmas.specs.Views.{BookView}
 use Rattle.book_lemmas.specs.Did.{Did}
 use Rattle.book_lemmas.specs.Follows.{Follows}
+use Rattle.book_lemmas.specs.Shelves.{FollowsShelf}
 use Rattle.book_lemmas.specs.Turns.{AddsTurn, asked_turn}
 use Rattle.book_lemmas.proofs.Follows.{follows_turn}
 use Rattle.book_lemmas.proofs.Heads.{head_seen}
@@ -36,8 +37,8 @@ pub record Ends (old new : BookView) (who : Who) (e : Event) (answer : Reply) : 
   pub idle : IsIdle new
   pub adds : AddsTurn old new (record { who = who; event = e }) answer
 
-pub ends : (old mid : BookView) (who : Who) (e : Event) (answer : Reply) → IsBook old → IsIdle old → DidEvent old mid e answer → may_ask old.tray.head e ≡ true → Ends old (turned mid who e answer) who e answer
-ends old mid who e answer k i d may =
+pub ends : (old mid : BookView) (who : Who) (e : Event) (answer : Reply) → IsBook old → IsIdle old → DidEvent old mid e answer → FollowsShelf old mid e answer → may_ask old.tray.head e ≡ true → Ends old (turned mid who e answer) who e answer
+ends old mid who e answer k i d f may =
     let turn : Turn = turn_of mid.tray who e answer in
     let is : old.tray.net ≡ seen old.tray.head old.tray.turns = idle_state old k i in
     let next : Next (seen old.tray.head old.tray.turns) turn = record {
@@ -64,5 +65,7 @@ ends old mid who e answer k i d may =
         idle = refl;
         untold = refl;
         did = subst (λ (n : Net). Did old.held.seats old.held mid.held n mid.tray.rows) (d.tells ∙ ap (λ (n : Net). told n e answer) is) d.goes.did;
+        refused = d.refused;
+        shelved = λ was. f.shelved who was;
       };
     }

@@ -18,6 +18,7 @@ use Rattle.book_lemmas.specs.Called.{IsCalled}
 use Rattle.book_lemmas.specs.Did.{Did}
 use Rattle.book_lemmas.specs.Follows.{Follows}
 use Rattle.book_lemmas.specs.Leaves.{Leaves}
+use Rattle.book_lemmas.specs.Shelves.{Balks, IsStill}
 use Rattle.book_lemmas.specs.Stands.{Stands}
 use Rattle.book_lemmas.specs.Turns.{HasUsed}
 use Rattle.book_lemmas.specs.Views.{BookView, HeldView, hands_of}
@@ -100,8 +101,9 @@ ended_book old new rows k d =
 
 -- so the event is done
 pub did_event : (old new : BookView) (rows : List Row) (e : Event) (choice : Choice) (answer : Reply) → IsBook old → IsIdle old → Ends old new rows
-    → answer ≡ (outcome old.tray.net e choice).reply → rows ≡ (outcome old.tray.net e choice).rows → told old.tray.net e answer ≡ old.tray.net → DidEvent old new e answer
-did_event old new rows e choice answer k i d reply outcome_is tells =
+    → answer ≡ (outcome old.tray.net e choice).reply → rows ≡ (outcome old.tray.net e choice).rows → told old.tray.net e answer ≡ old.tray.net
+    → Balks e answer old.held new.held → IsStill e old.held new.held → DidEvent old new e answer
+did_event old new rows e choice answer k i d reply outcome_is tells refused still =
     let all : new.tray.rows ≡ rows = d.rows_are ∙ ap (λ rs. rs ++ rows) i.rows in
     let none : new.tray.told_by ≡ None = d.told_by ∙ i.told_by in
     let begun : old.tray.net ≡ begun_by old.tray.net new.tray.told_by = sym (ap (begun_by old.tray.net) none) in
@@ -121,6 +123,8 @@ did_event old new rows e choice answer k i d reply outcome_is tells =
         used = record { rows_used = used.rows_used; frames = used.frames; bytes = used.bytes; slack = used.slack; turns = used.turns; payloads = used.payloads };
         did = subst (λ n. Did old.held.seats old.held new.held n new.tray.rows) begun (subst (λ rs. Did old.held.seats old.held new.held old.tray.net rs) (sym all) d.did);
       };
+      refused = refused;
+      still = still;
     }
 
 -- an event of one call ends

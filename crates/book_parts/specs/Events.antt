@@ -14,6 +14,7 @@ use Rattle.agenda_items.specs.declared.Carried.TheVariants.{List as a_list}
 use Rattle.driver_tray.specs.Tray.{TrayView, begun_by}
 use Rattle.book_lemmas.specs.Views.{BookView}
 use Rattle.book_lemmas.specs.Follows.{Follows}
+use Rattle.book_lemmas.specs.Shelves.{Balks, IsStill}
 use Rattle.book_lemmas.specs.Stands.{Stands}
 use Rattle.book_lemmas.specs.Turns.{Goes}
 
@@ -33,7 +34,8 @@ abbrev pub begun_with : BookView → Option (Event × Reply) → BookView
 begun_with v told_by = record v { tray = record v.tray { told_by = told_by; net = begun_by v.tray.net told_by } }
 
 -- the rows of an event were written, with this reply, as the rules have them for what the drivers chose; nothing else of
--- the journal changed, and the drivers did what the rows say
+-- the journal changed, and the drivers did what the rows say; where one refused it counted that; and shelf and seats
+-- stay, but where filters come and go
 pub record DidEvent (old new : BookView) (e : Event) (answer : Reply) : Type 0 where
   pub book : IsBook new
   pub choice : Choice
@@ -41,6 +43,8 @@ pub record DidEvent (old new : BookView) (e : Event) (answer : Reply) : Type 0 w
   pub rows : new.tray.rows ≡ (outcome old.tray.net e choice).rows
   pub tells : begun_by old.tray.net new.tray.told_by ≡ told old.tray.net e answer
   pub goes : Goes old.held.seats (begun_with old new.tray.told_by) new new.tray.rows
+  pub refused : Balks e answer old.held new.held
+  pub still : IsStill e old.held new.held
 
 -- all but the room and what rows may refer to is as it was
 pub record IsUnmoved (old new : BookView) : Type 0 where

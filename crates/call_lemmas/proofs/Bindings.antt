@@ -21,6 +21,7 @@ use Rattle.book_lemmas.specs.Called.{IsCalled}
 use Rattle.book_lemmas.specs.Did.{Did, IsServed, calls_in, logs_in}
 use Rattle.book_lemmas.specs.Leaves.{Leaves}
 use Rattle.book_lemmas.specs.Views.{HeldView, kept_of, held_pool}
+use Rattle.book_lemmas.proofs.Keeps.{keeps_same}
 use Rattle.book_lemmas.proofs.Called.{called_pool}
 use Rattle.book_lemmas.proofs.Seats.{protocol_pooled}
 use Rattle.driver_views.specs.States.{Record}
@@ -120,4 +121,5 @@ did_still {b} {h} {m} {rows} seats held i pool c = record {
   protocols = λ j. served_still (Binding j) b.net rows _ c.calls_are (quiet_all c (Binding j));
   filters = λ f place seat. served_still (Filter f) b.net rows _ c.calls_are (quiet_all c (Filter f));
   shelved = λ place none. record { calls = λ what. refl; log = refl };
+  keeps = keeps_same held (binding_pooled held i pool) (omega arith) refl;
 }

@@ -1,5 +1,5 @@
 -- A module was called, and its driver counted the calls: the drivers did what the rows of the call say.
-use Rattle.std.proofs.Common.{◌≡◌, ℕ, ◌+◌, ◌<◌, ◌==◌, ◌&&◌, Bool, true, false, cond, List, [], ◌∷◌, ◌++◌, Some, length, slice_index_or, slice_set, count_by, refl, sym, ap, ◌∙◌, subst, arith, append_assoc, append-nil, get_or-set_same, get_or-set_other, eq-eqb, ne_eqb, ◌⊎◌, inl, inr}
+use Rattle.std.proofs.Common.{◌≡◌, ℕ, ◌+◌, ◌<◌, ◌==◌, ◌&&◌, Bool, true, false, cond, List, [], ◌∷◌, ◌++◌, Some, ◌≤◌, length, slice_index_or, slice_set, count_by, refl, sym, ap, ◌∙◌, subst, arith, append_assoc, append-nil, get_or-set_same, get_or-set_other, eq-eqb, ne_eqb, ◌⊎◌, inl, inr}
 use Rattle.std.proofs.lemmas.Bool.{cases_eq}
 use Rattle.ndis_base.specs.declared.ModuleId.{ModuleId}
 use Rattle.ndis_base.specs.declared.ModuleId.TheVariants.{Miniport, Filter, Binding}
@@ -16,6 +16,7 @@ use Rattle.driver_views.specs.declared.Served.{Served}
 use Rattle.driver_views.specs.States.{Record, FilterState, MiniportState, ProtocolState, times, one_more, called_for, logs}
 use Rattle.hand_lemmas.specs.Hands.{Hands}
 use Rattle.hand_lemmas.proofs.Modules.{same_self}
+use Rattle.book_lemmas.proofs.Keeps.{keeps_same, keeps_set}
 use Rattle.book_lemmas.specs.Views.{HeldView, no_filter, no_protocol, filter_at, seat_of}
 use Rattle.book_lemmas.specs.Called.{SitsAt, filter_called, miniport_called, protocol_called}
 use Rattle.book_lemmas.specs.Did.{logs_in, IsServed, IsIdle, Did}
@@ -93,12 +94,13 @@ some_is x y e = cc
 
 pub did_filter : {b : TrayView} {h : Hands} {f : ℕ} {rows : List Row} {calls : List Call} {log : List (List (List ℕ))} {t : TrayView} {x : Beside} (held : HeldView) (place : ℕ) (s : FilterState) (pool : PoolView)
     → InCall b h (Filter f) rows calls log t x → SitsAt held f place → AreCallsOf (Filter f) calls → Counts (Filter f) calls log (filter_at held.filters (Some place)).did s.did
-    → Did held.seats held (filter_called held place s pool) b.net rows
-did_filter {b} {f = f} {rows = rows} held place s pool i sits are c = record {
+    → s.kind ≡ (filter_at held.filters (Some place)).kind → (filter_at held.filters (Some place)).refusals ≤ s.refusals → Did held.seats held (filter_called held place s pool) b.net rows
+did_filter {b} {f = f} {rows = rows} held place s pool i sits are c kind rose = record {
   miniport = served_there Miniport held.miniport.did i are refl;
   protocols = λ n. served_there (Binding n) _ i are refl;
   filters = λ g q seat. by_place g q seat (cases_eq q place);
   shelved = λ q vacant. subst (λ (y : FilterState). IsIdle (filter_at held.filters (Some q)).did y.did) (sym (get_or-set_other held.filters place q s no_filter (λ e. vacant f (sits.seat ∙ ap Some (sym e))))) (record { calls = λ what. refl; log = refl });
+  keeps = keeps_set held (filter_called held place s pool) place s (omega arith) refl sits.is.driver kind rose;
 }
   where
     by_place : (g q : ℕ) → seat_of held.seats g ≡ Some q → (q ≡ place) ⊎ (q ≡ place → ⊥) → IsServed (Filter g) b.net rows (filter_at held.filters (Some q)).did (filter_at (slice_set held.filters place s) (Some q)).did
@@ -113,12 +115,13 @@ did_filter {b} {f = f} {rows = rows} held place s pool i sits are c = record {
 
 pub did_miniport : {b : TrayView} {h : Hands} {rows : List Row} {calls : List Call} {log : List (List (List ℕ))} {t : TrayView} {x : Beside} (held : HeldView) (s : MiniportState) (pool : PoolView)
     → InCall b h Miniport rows calls log t x → AreCallsOf Miniport calls → Counts Miniport calls log held.miniport.did s.did
-    → Did held.seats held (miniport_called held s pool) b.net rows
-did_miniport held s pool i are c = record {
+    → held.miniport.refusals ≤ s.refusals → Did held.seats held (miniport_called held s pool) b.net rows
+did_miniport held s pool i are c rose = record {
   miniport = served_here i c;
   protocols = λ n. served_there (Binding n) _ i are refl;
   filters = λ g q seat. served_there (Filter g) _ i are refl;
   shelved = λ q vacant. record { calls = λ what. refl; log = refl };
+  keeps = keeps_same held (miniport_called held s pool) rose refl;
 }
 
 pub did_protocol : {b : TrayView} {h : Hands} {n : ℕ} {rows : List Row} {calls : List Call} {log : List (List (List ℕ))} {t : TrayView} {x : Beside} (held : HeldView) (s : ProtocolState) (pool : PoolView)
@@ -129,6 +132,7 @@ did_protocol {b} {n = n} {rows = rows} held s pool i within are c = record {
   protocols = λ j. by_number j (cases_eq j n);
   filters = λ g q seat. served_there (Filter g) _ i are refl;
   shelved = λ q vacant. record { calls = λ what. refl; log = refl };
+  keeps = keeps_same held (protocol_called held n s pool) (omega arith) refl;
 }
   where
     by_number : (j : ℕ) → (j ≡ n) ⊎ (j ≡ n → ⊥) → IsServed (Binding j) b.net rows (slice_index_or held.protocols j no_protocol).did (slice_index_or (slice_set held.protocols n s) j no_protocol).did

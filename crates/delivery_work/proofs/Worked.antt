@@ -69,7 +69,7 @@ delivered_event old mid new many l t b bs k i run r turns count takes taken d he
       did = did_event old new rows event.Pump choice reply.Moved k i done (sym (ap (λ (q : Outcome). q.reply) outcome_is))
           (all_rows old.tray.net n.x l b bs all.keeps same taken_is all.may
           ∙ ap (λ run. cond run (delivery_rows old.tray.net n.x all.keeps) (turned_back old.tray.net.modules n.x (Binding 0) Paused)) (sym run)
-          ∙ ap (λ st. moved_rows old.tray.net n.x st all.keeps) (sym n.stand) ∙ sym (ap (λ (q : Outcome). q.rows) outcome_is)) refl;
+          ∙ ap (λ st. moved_rows old.tray.net n.x st all.keeps) (sym n.stand) ∙ sym (ap (λ (q : Outcome). q.rows) outcome_is)) refl tt (ap (λ (h : HeldView). h.shelf) held, ap (λ (h : HeldView). h.seats) held);
       turn = record { room = all.turns };
     }
 

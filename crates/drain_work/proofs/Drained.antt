@@ -54,7 +54,7 @@ given_drained old new r requests g =
     let rows : drain_rows net ≡ given_rows net = ap first_rows (sym (append_assoc returned passed (empties_ring net ∷ []))) ∙ first_some (returned ++ passed) (empties_ring net ∷ []) g.some in
     let is : drain_outcome net false ≡ drained (given_rows net) = cond-false (is_pump_moving net) (pump_outcome net false) (drained (drain_rows net)) (no_pump old r requests) ∙ ap drained rows in
     did_event old new (given_rows net) event.Drain no_choice reply.Moved r.book r.idle g.ends
-    (drained_reply (given_rows net) g.some ∙ ap (λ (o : Outcome). o.reply) (sym is)) (drained_rows (given_rows net) ∙ ap (λ (o : Outcome). o.rows) (sym is)) refl
+    (drained_reply (given_rows net) g.some ∙ ap (λ (o : Outcome). o.reply) (sym is)) (drained_rows (given_rows net) ∙ ap (λ (o : Outcome). o.rows) (sym is)) refl tt (g.shelf, g.seats)
 
 -- in a stack that is Halted nothing is kept
 all_none : (f : ℕ → List Row) → ((n : ℕ) → f n ≡ []) → (ns : List ℕ) (more : List (List Row)) → first_rows (map f ns ++ more) ≡ first_rows more
@@ -83,4 +83,4 @@ halted_drained old new k i quiet requests halted s =
     ap (λ o. is_some o || is_some (next_giving net)) (none_away net (hands_of old.tray.queue old.held []) k.stands.agrees quiet) ∙ ap (λ o. is_some o) requests in
     let is : drain_outcome net false ≡ drained [] = cond-false (is_pump_moving net) (pump_outcome net false) (drained (drain_rows net)) still ∙ ap drained rows in
     let ends : Ends old new [] = subst (λ (v : BookView). Ends old v []) (book_is refl s.held) (ends_still new.tray k s.tray) in
-    did_event old new [] event.Drain no_choice reply.Idle k i ends (ap (λ (o : Outcome). o.reply) (sym is)) (ap (λ (o : Outcome). o.rows) (sym is)) refl
+    did_event old new [] event.Drain no_choice reply.Idle k i ends (ap (λ (o : Outcome). o.reply) (sym is)) (ap (λ (o : Outcome). o.rows) (sym is)) refl tt (refl, refl)

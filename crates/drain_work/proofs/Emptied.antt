@@ -139,6 +139,8 @@ ticked_gives old begun left t' m held kept' rows moved r g turns d tray_is still
         ends = subst (λ (t : TrayView). Ends old (record { tray = t; held = held }) rows) (sym tray_is)
             (ends_call held begun.pool r.book (begins_called m pool g) d.did.call d.called d.leaves d.ring d.served);
         turn = record { room = omega (arith, turns, d.did.call.used.turns, ap (λ (t : TrayView). t.room.turns) tray_is) };
+        shelf = d.leaves.shelf;
+        seats = d.leaves.seats;
       };
     }
   where

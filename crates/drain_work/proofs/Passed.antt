@@ -122,7 +122,8 @@ module _ (old : BookView) (begun : TrayView) (f place : ℕ) (r : IsResting old)
         called = filter_is_called old.held f place s' left.pool sits;
         leaves = filter_leaves old.held f place s' left.pool sits (ap (λ (x : FilterState). x.kind) d.same) (ap (λ (x : FilterState). x.setup) d.same) e.call.size e.call.bytes;
         ring = r.book.stands.ring;
-        served = did_filter old.held place s' left.pool e.call sits tt (subst (λ (x : FilterState). Counts (Filter f) [] [] s.did x.did) (sym d.same) (counts_none (Filter f) s.did));
+        served = did_filter old.held place s' left.pool e.call sits tt (subst (λ (x : FilterState). Counts (Filter f) [] [] s.did x.did) (sym d.same) (counts_none (Filter f) s.did))
+            (ap (λ (x : FilterState). x.kind) d.same) (let rose = ap (λ (x : FilterState). x.refusals) d.same in omega (arith, rose));
         unchanged = λ kept same.
             let state : s' ≡ s = d.same ∙ ap (λ ks. record s { kept = ks }) (kept ∙ kept_is) in
             ap (λ (x : FilterState). record old.held { filters = slice_set old.held.filters place x; filter_pools = slice_set old.held.filter_pools place left.pool }) state

@@ -135,4 +135,6 @@ drained_as old new wired drains d = record {
   rows = d.rows ∙ drained_rows (transmit_outcome old.tray.net).rows ∙ ap (λ (o : Outcome). o.rows) (sym (drains.outcome d.choice.keeps));
   tells = d.tells;
   goes = d.goes;
+  refused = tt;
+  still = d.still;
 }

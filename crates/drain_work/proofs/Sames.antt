@@ -7,6 +7,7 @@ use Rattle.stack_rules.specs.Net.{Net, told, after_rows}
 use Rattle.stack_rules.specs.Sound.{outcome}
 use Rattle.driver_tray.specs.Tray.{TrayView, begun_by}
 use Rattle.book_lemmas.specs.Did.{Did}
+use Rattle.book_lemmas.specs.Shelves.{Balks, IsStill}
 use Rattle.book_lemmas.specs.Turns.{HasUsed}
 use Rattle.book_lemmas.specs.Views.{BookView, HeldView}
 use Rattle.book_lemmas.proofs.Goes.{used_none, used_then}
@@ -92,11 +93,19 @@ did_then {old} {mid} {new} {e} {answer} s d =
         did = subst (λ (n : Net). Did old.held.seats old.held new.held (begun_by n new.tray.told_by) new.tray.rows) s.tray.net
             (subst (λ (h : HeldView). Did h.seats h new.held (begun_by mid.tray.net new.tray.told_by) new.tray.rows) s.held d.goes.did);
       };
+      refused = subst (λ (h : HeldView). Balks e answer h new.held) s.held d.refused;
+      still = subst (λ (h : HeldView). IsStill e h new.held) s.held d.still;
     }
 
 -- the first of some modules that gives anything away, one module after the other
 pub gave_then : {old mid new : BookView} {rows : List Row} → IsSame old mid → Gave mid new rows → Gave old new rows
-gave_then s g = record { some = g.some; ends = ends_then s g.ends; turn = g.turn }
+gave_then {old} {mid} {new} s g = record {
+  some = g.some;
+  ends = ends_then s g.ends;
+  turn = g.turn;
+  shelf = g.shelf ∙ ap (λ (h : HeldView). h.shelf) s.held;
+  seats = g.seats ∙ ap (λ (h : HeldView). h.seats) s.held;
+}
 
 pub gives_rows : {old new : BookView} {xs ys : List Row} {moved : Bool} → xs ≡ ys → Gives old new xs moved → Gives old new ys moved
 gives_rows {old} {new} {moved = moved} e g = subst (λ rs. Gives old new rs moved) e g

@@ -62,6 +62,8 @@ pub record Gave (old new : BookView) (rows : List Row) : Type 0 where
   pub some : rows ≢ []
   pub ends : Ends old new rows
   pub turn : CanEnd new
+  pub shelf : new.held.shelf ≡ old.held.shelf
+  pub seats : new.held.seats ≡ old.held.seats
 
 -- modules gave their ready lists away by these rows; where there are none, nothing was moved
 pub record Gives (old new : BookView) (rows : List Row) (moved : Bool) : Type 0 where

@@ -16,9 +16,9 @@ use Rattle.stack_rules.specs.Handled.{program}
 use Rattle.promise_rules.specs.declared.Called.{Called}
 use Rattle.agenda_items.specs.Waits.{waits_at}
 use Rattle.hand_lemmas.specs.Frames.{AreSized}
-use Rattle.driver_views.specs.States.{FilterState, called_for}
+use Rattle.driver_views.specs.States.{FilterState, IsRisen, called_for}
 use Rattle.driver_tray.specs.Tray.{TrayView, turned_back, passed_on, passed_back, noted, clone_label, cloned_on, spent, each_turned_back, each_passed_on}
-use Rattle.driver_calls.specs.Rooms.{CanCount, IsRisen, HasRoomFor, HasRoomForNew, HasRoomForAll}
+use Rattle.driver_calls.specs.Rooms.{CanCount, HasRoomFor, HasRoomForNew, HasRoomForAll}
 
 -- a list may be given to it
 pub record MayHandle (what : Called) (d : Direction) (s : FilterState) (l : ListView) (t : TrayView) : Type 0 where

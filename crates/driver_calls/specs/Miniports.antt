@@ -10,9 +10,9 @@ use Rattle.buffer_pools.specs.Views.{ListView, PoolView, IsOf, Frees, live_count
 use Rattle.stack_rules.specs.Tests.{is_loop, is_virtual}
 use Rattle.promise_rules.specs.declared.Called.TheVariants as called
 use Rattle.hand_lemmas.specs.Frames.{AreSized}
-use Rattle.driver_views.specs.States.{MiniportState, called_for, logs}
+use Rattle.driver_views.specs.States.{MiniportState, IsRisen, called_for, logs}
 use Rattle.driver_tray.specs.Tray.{TrayView, turned_back, passed_back, noted, wired, spent, Starts}
-use Rattle.driver_calls.specs.Rooms.{CanCount, IsRisen, HasRoomFor, HasRoomForAll}
+use Rattle.driver_calls.specs.Rooms.{CanCount, HasRoomFor, HasRoomForAll}
 use Rattle.driver_calls.specs.Filters.{Cancels}
 
 -- it refused and counted that

@@ -1,5 +1,5 @@
 -- Room in the tray for one call of a driver.
-use Rattle.std.specs.Prelude.{ℕ, ◌≤◌, ◌<◌, ◌+◌, ◌*◌, ◌^◌, ◌≡◌, ◌⊎◌, length, List}
+use Rattle.std.specs.Prelude.{ℕ, ◌≤◌, ◌<◌, ◌*◌, ◌^◌, length, List}
 use Rattle.buffer_pools.specs.Views.{ListView}
 use Rattle.promise_rules.specs.declared.Called.{Called}
 use Rattle.driver_views.specs.declared.Served.{Served}
@@ -9,10 +9,6 @@ use Rattle.driver_tray.specs.Tray.{TrayView}
 -- the call can be counted
 abbrev pub CanCount : Called → Served → Type 0
 CanCount what s = times s what < 2 ^ 62
-
--- a count of 64 bits rose; one at its last value, 2 to the power of 64 less one, is taken as risen
-abbrev pub IsRisen : ℕ → ℕ → Type 0
-IsRisen n n' = (n < n') ⊎ ((n + 1 ≡ 2 ^ 64) × (n' ≡ n))
 
 -- for so many rows, and so many more lists on their way
 pub record HasRoomFor (many ways : ℕ) (t : TrayView) : Type 0 where

@@ -7,7 +7,7 @@ ghost use Rattle.driver_tray.specs.Tray.{begun_by, told_to, TellsOther, turn_of,
 
 use crate::telling::Telling;
 use crate::tray::Tray;
-use flat_journal::{FlatEvent, FlatReply};
+use flat_journal::{FlatEvent, FlatJournal, FlatReply};
 use ndis_base::Who;
 
 impl Tray {
@@ -33,5 +33,13 @@ impl Tray {
     {
         self.journal.end_turn(who, event, reply);
         self.told = None;
+    }
+
+    /// Gives the journal away: the turns that the stack has had. What was on its way is gone.
+    pub fn into_journal(self) -> FlatJournal
+        ensures head { result.head ≡ self.old.head }
+        ensures turns { result.turns ≡ self.old.turns }
+    {
+        self.journal
     }
 }

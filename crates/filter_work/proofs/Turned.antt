@@ -88,11 +88,11 @@ taken_done old begun by l rest f place s' left k i roomed turns first seat takes
     let ends : Ends old (record { tray = record left { pool = begun.pool }; held = held }) (moved_rows b.net here.x here.x.stand w.keeps) =
     ends_call held begun.pool k g w.call_is (filter_is_called old.held f place s' left.pool sits)
     (filter_leaves old.held f place s' left.pool sits w.kind w.setup w.call_is.size w.call_is.bytes) k.stands.ring
-    (did_filter old.held place s' left.pool w.call_is sits w.own w.counts) in
+    (did_filter old.held place s' left.pool w.call_is sits w.own w.counts w.kind w.refusals) in
     let choice : Choice = record { keeps = w.keeps; refuses = false; shelf_empty = false } in
     record {
       did = did_event old _ (moved_rows b.net here.x here.x.stand w.keeps) event.Pump choice reply.Moved k i ends
-          (reply_is old.tray.net b.net w.keeps here.x g.net here.first) (rows_is old.tray.net b.net w.keeps here.x g.net here.first) refl;
+          (reply_is old.tray.net b.net w.keeps here.x g.net here.first) (rows_is old.tray.net b.net w.keeps here.x g.net here.first) refl tt (refl, refl);
       turn = record { room = omega (arith, turns, w.call_is.used.turns) };
     }
 

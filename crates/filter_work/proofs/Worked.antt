@@ -1,5 +1,5 @@
 -- What a filter did with the list that it was given, in the words of the rules: its rows, its calls and its counts.
-use Rattle.std.proofs.Common.{◌≡◌, ℕ, Bool, true, false, List, [], ◌∷◌, Option, Some, IsSome, refl, sym, ap, ◌∙◌, subst}
+use Rattle.std.proofs.Common.{◌≡◌, ℕ, Bool, true, false, List, [], ◌∷◌, Option, Some, IsSome, refl, sym, ap, ◌∙◌, subst, arith, ◌≤◌}
 use Rattle.std.proofs.lemmas.Bool.{cond-true, cond-false}
 use Rattle.ndis_base.specs.declared.Direction.{Direction}
 use Rattle.ndis_base.specs.declared.Direction.TheVariants as direction
@@ -53,6 +53,7 @@ pub record IsWorked (b : TrayView) (h : Hands) (f : ℕ) (x : LiveList) (s s' : 
   pub counts : Counts (Filter f) calls [] s.did s'.did
   pub kind : s'.kind ≡ s.kind
   pub setup : s'.setup ≡ s.setup
+  pub refusals : s.refusals ≤ s'.refusals
 
 down_rows_are : (net : Net) (x : LiveList) (f : ℕ) (a : Attached) (keeps : Bool) → x.stand ≡ stand.Passed way.Down (Module (Filter f)) → attached f net.modules.filters ≡ Some a → filter_rows net a x keeps ≡ moved_rows net x x.stand keeps
 down_rows_are net x f a keeps e there = ap (λ (o : Option Attached). at_filter net o x keeps) (sym there) ∙ ap (λ (s : Stand). moved_rows net x s keeps) (sym e)
@@ -79,6 +80,7 @@ handled {b} {h} {held} {f} {by} {l} {s} {s'} {left} what way_of k i goes is rows
       counts = counted f what s s' d.same;
       kind = ap (λ (y : FilterState). y.kind) d.same;
       setup = ap (λ (y : FilterState). y.setup) d.same;
+      refusals = let rose = ap (λ (y : FilterState). y.refusals) d.same in omega (arith, rose);
     }
 
 -- a receive on its way up
@@ -105,6 +107,7 @@ stopped {b} {h} {held} {f} {l} {s} {s'} {left} k i still same left_is =
       counts = subst (λ (y : FilterState). Counts (Filter f) [] [] s.did y.did) (sym same) (counts_none (Filter f) s.did);
       kind = ap (λ (y : FilterState). y.kind) same;
       setup = ap (λ (y : FilterState). y.setup) same;
+      refusals = let rose = ap (λ (y : FilterState). y.refusals) same in omega (arith, rose);
     }
 
 -- whether the filter runs, in the words of the rules
@@ -135,6 +138,7 @@ homed {b} {h} {f = f} {s = s} {s' = s'} {left = left} what calls status k i are 
   counts = counted f what s s' same;
   kind = ap (λ (y : FilterState). y.kind) same;
   setup = ap (λ (y : FilterState). y.setup) same;
+  refusals = let rose = ap (λ (y : FilterState). y.refusals) same in omega (arith, rose);
 }
 
 went_home : {b : TrayView} {h : Hands} {held : HeldView} {f : ℕ} {l : ListView} {s s' : FilterState} {left : TrayView} (by : PassWay) (what : Called) (handler : Handler) (status : ListStatus) (way_of : Direction) (k : IsFor b.net held by l f)

@@ -1,7 +1,7 @@
 //! What each filter counts.
 ghost use Rattle.std.specs.Prelude.{◌≡◌, ◌↔◌, [], true};
 ghost use Rattle.driver_views.specs.States.{not_called};
-ghost use Rattle.driver_calls.specs.Rooms.{IsRisen};
+ghost use Rattle.driver_views.specs.States.{IsRisen};
 ghost use Rattle.frame_filters.specs.Filters.{IsEmpty};
 
 use driver_views::Served;

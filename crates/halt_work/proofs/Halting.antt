@@ -1,5 +1,5 @@
 -- The event of a halt.
-use Rattle.std.proofs.Common.{◌≡◌, ℕ, zero, suc, ◌+◌, ◌==◌, Bool, true, false, cond, List, [], ◌∷◌, ◌++◌, Some, None, length, refl, sym, ap, ◌∙◌, subst}
+use Rattle.std.proofs.Common.{◌≡◌, ℕ, zero, suc, ◌+◌, ◌==◌, Bool, true, false, cond, List, [], ◌∷◌, ◌++◌, Some, None, length, refl, sym, ap, ◌∙◌, subst, arith}
 use Rattle.std.proofs.lemmas.List.{length-map}
 use Rattle.std.proofs.lemmas.List.Elements.{All-weaker, All-from_get_or}
 use Rattle.ndis_base.specs.declared.ModuleId.TheVariants.{Miniport, Filter, Binding}
@@ -32,7 +32,7 @@ use Rattle.phase_work.proofs.Written.{HasWritten, did_nothing, ends_moved, has_w
 use Rattle.rewire_work.specs.Refusals.{refused_or}
 use Rattle.rewire_work.specs.Rested.{IsAtRest}
 use Rattle.rewire_work.specs.Reseated.{AreTheirs, AreSeated}
-use Rattle.rewire_work.specs.Shelves.{FollowsShelf}
+use Rattle.book_lemmas.specs.Shelves.{FollowsShelf}
 use Rattle.rewire_work.proofs.Causes.{attaches}
 use Rattle.rewire_work.proofs.Empty.{kept_none, live_none}
 use Rattle.rewire_work.proofs.Removed.{is_sitting}
@@ -71,7 +71,7 @@ did_not_halt old cause k i e =
     let is : halt_outcome old.tray.net ≡ refused cause = halt_is old.tray.net ∙ ap (λ c. refused_or c (record { reply = reply.Halted; rows = halt_rows old.tray.net })) e in
     did_event old old [] event.Halt attaches (reply.Refused cause) k i
     (ends_still old.tray k (record { head = refl; turns = refl; told_by = refl; net = refl; rows = refl; queue = refl; used = used_none old.tray }))
-    (sym (ap (λ (o : Outcome). o.reply) is)) (sym (ap (λ (o : Outcome). o.rows) is)) refl
+    (sym (ap (λ (o : Outcome). o.reply) is)) (sym (ap (λ (o : Outcome). o.rows) is)) refl tt tt
 
 pub shelf_not_halted : (old : BookView) (cause : Refusal) → IsIdle old → FollowsShelf old old event.Halt (reply.Refused cause)
 shelf_not_halted old cause i = follows_still old old _ _ i.rows refl refl refl refl refl (λ kinds shelf. refl)
@@ -201,6 +201,11 @@ module _ (old : BookView) (n : ℕ) (k : IsBook old) (i : IsIdle old) (rest : Is
     miniport = refl;
     protocols = closed_field (λ (s : ProtocolState). s.did) (λ s. refl) old.held.protocols;
     filters = did_each fs (sides_of old.held) up.may;
+    keeps = record {
+      miniport = omega arith;
+      filters = λ q. let same = refusals_each fs (sides_of old.held) up.may q in omega (arith, same);
+      kinds = kinds_each fs (sides_of old.held) up.may;
+    };
   }
 
   ends : Ends old new rows
@@ -221,7 +226,7 @@ module _ (old : BookView) (n : ℕ) (k : IsBook old) (i : IsIdle old) (rest : Is
   pub did_halt : DidEvent old new event.Halt reply.Halted
   did_halt =
       did_event old new rows event.Halt attaches reply.Halted k i ends
-      (sym (ap (λ (o : Outcome). o.reply) outcome_is)) (rows_are n old.tray.net all ∙ sym (ap (λ (o : Outcome). o.rows) outcome_is)) refl
+      (sym (ap (λ (o : Outcome). o.reply) outcome_is)) (rows_are n old.tray.net all ∙ sym (ap (λ (o : Outcome). o.rows) outcome_is)) refl tt tt
 
   -- the shelf
   kinds_are : kinds_of new.held ≡ kinds_of old.held

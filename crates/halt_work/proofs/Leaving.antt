@@ -10,7 +10,7 @@ use Rattle.driver_views.specs.States.{FilterState}
 use Rattle.book_lemmas.specs.Stands.{Stands, DriversFit}
 use Rattle.book_lemmas.specs.Views.{HeldView, filter_at, seat_of}
 use Rattle.rewire_work.specs.Seated.{unseated, put_down, without_seat}
-use Rattle.rewire_work.proofs.Balking.{did_still}
+use Rattle.rewire_work.proofs.Balking.{did_still, field_still}
 use Rattle.rewire_work.proofs.Orders.{less, attached_gone, attached_less}
 use Rattle.rewire_work.proofs.Removed.{may_rise}
 use Rattle.rewire_work.proofs.Reseated.{stands_reseated}
@@ -71,6 +71,16 @@ did_each (f ∷ fs) s may q =
     ap (λ o. (filter_at (risen_each (risen f s o) fs).filters (Some q)).did) at.seat
     ∙ did_each fs next rest q
     ∙ did_still s.filters at.place (put_down (filter_at s.filters (Some at.place))) at.within refl q (cases_eq q at.place)
+
+pub refusals_each : (fs : List ℕ) (s : Sides) → CanEachRise s fs → (q : ℕ) → (filter_at (risen_each s fs).filters (Some q)).refusals ≡ (filter_at s.filters (Some q)).refusals
+refusals_each [] s may q = refl
+refusals_each (f ∷ fs) s may q =
+    let at = may.0 in
+    let next : Sides = risen f s (Some at.place) in
+    let rest : CanEachRise next fs = subst (λ o. CanEachRise (risen f s o) fs) at.seat may.1 in
+    ap (λ o. (filter_at (risen_each (risen f s o) fs).filters (Some q)).refusals) at.seat
+    ∙ refusals_each fs next rest q
+    ∙ field_still (λ (x : FilterState). x.refusals) s.filters at.place (put_down (filter_at s.filters (Some at.place))) at.within refl q (cases_eq q at.place)
 
 pub kinds_each : (fs : List ℕ) (s : Sides) → CanEachRise s fs → map (λ (x : FilterState). x.kind) (risen_each s fs).filters ≡ map (λ (x : FilterState). x.kind) s.filters
 kinds_each [] s may = refl

@@ -6,7 +6,7 @@ ghost use Rattle.flat_journal.specs.Shown.{reply_of};
 ghost use Rattle.flat_journal.specs.Within.{ReplyWithin};
 ghost use Rattle.book_parts.specs.Parts.{view_of};
 ghost use Rattle.book_parts.specs.Events.{IsBook, IsIdle, DidEvent, IsUnmoved, CanEnd};
-ghost use Rattle.rewire_work.specs.Shelves.{FollowsShelf};
+ghost use Rattle.book_lemmas.specs.Shelves.{FollowsShelf};
 ghost use Rattle.halt_work.specs.Halted.{AreNumbers, MayShut, IsWide, Halts};
 
 use crate::drivers::{close_from, detach_each, halt_miniport};

@@ -39,6 +39,7 @@ pub record Works (old : BookView) (t : TrayView) (front : List Carried) (s' : Mi
   pub call : InCall (called_with t old.held.miniport_pool) (hands_of (front ++ t.queue) old.held []) Miniport rows calls log left (record { front = []; loose = []; kept = s'.kept })
   pub kind : s'.kind ≡ old.held.miniport.kind
   pub port : s'.port ≡ old.held.miniport.port
+  pub refusals : old.held.miniport.refusals ≤ s'.refusals
   pub ring : length s'.kept ≤ old.tray.net.head.port.ring
   pub calls_are : AreCallsOf Miniport calls
   pub counts : Counts Miniport calls log old.held.miniport.did s'.did
@@ -56,6 +57,6 @@ ended {old} {t} {front} {s'} {left} {t'} {pool'} {rows} k g w tray_is pool_is =
     (subst (λ (p : PoolView). Ended old t (record { tray = record left { pool = t.pool }; held = miniport_called old.held s' p }) rows) (sym pool_is)
     (record {
       ends = ends_call (miniport_called old.held s' left.pool) t.pool k (begins_called Miniport old.held.miniport_pool g) w.call (miniport_is_called old.held s' left.pool)
-          (miniport_leaves old.held s' left.pool w.kind w.port w.call.size w.call.bytes) w.ring (did_miniport old.held s' left.pool w.call w.calls_are w.counts);
+          (miniport_leaves old.held s' left.pool w.kind w.port w.call.size w.call.bytes) w.ring (did_miniport old.held s' left.pool w.call w.calls_are w.counts w.refusals);
       turns = w.call.used.turns;
     }))

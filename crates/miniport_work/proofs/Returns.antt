@@ -92,6 +92,7 @@ module _ (old : BookView) (l : ListView) (status : ListStatus) (k : IsBook old) 
             (returned_is old.tray.net f.x l status f.same own no_clone) done);
         kind = ap (λ (x : MiniportState). x.kind) q.same;
         port = ap (λ (x : MiniportState). x.port) q.same;
+        refusals = let rose = ap (λ (x : MiniportState). x.refusals) q.same in omega (arith, rose);
         ring = subst (λ ls. length ls ≤ old.tray.net.head.port.ring) (sym kept) k.stands.ring;
         calls_are = (refl, tt);
         counts = subst (λ (r : Record). Counts Miniport (call Miniport called.Returned) [] s.did r) (sym (ap (λ (x : MiniportState). x.did) q.same)) (counts_call Miniport called.Returned s.did);
@@ -106,6 +107,6 @@ module _ (old : BookView) (l : ListView) (status : ListStatus) (k : IsBook old) 
         did_event old (record { tray = t'; held = miniport_called old.held s' pool' }) (homeward_rows old.tray.net f.x Miniport status) event.Pump no_choice reply.Moved k i e.ends
             (ap (λ o. (pump_of old.tray.net false o).reply) (sym f.first))
             (sym (ap (λ o. (pump_of old.tray.net false o).rows) f.first ∙ first_moved old.tray.net f.x (stand.Passed (way.Back status) (Module Miniport)) (thing.List f.x) refl f.stand))
-            refl,
+            refl tt (refl, refl),
         e.turns,
       )

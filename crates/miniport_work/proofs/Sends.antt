@@ -85,6 +85,7 @@ module _ (old : BookView) (l : ListView) (k : IsBook old) (i : IsIdle old) (f : 
         call = subst (λ rs. InCall (called_with t old.held.miniport_pool) (hands_of (a_list l way.Down (Module Miniport) ∷ t.queue) old.held []) Miniport rs (call Miniport called.Send) [] left (record { front = []; loose = []; kept = s'.kept })) are done;
         kind = ap (λ (x : MiniportState). x.kind) q.same;
         port = ap (λ (x : MiniportState). x.port) q.same;
+        refusals = let rose = ap (λ (x : MiniportState). x.refusals) q.same in omega (arith, rose);
         ring = ring_kept by k.stands.ring;
         calls_are = (refl, tt);
         counts = subst (λ (r : Record). Counts Miniport (call Miniport called.Send) [] s.did r) (sym (ap (λ (x : MiniportState). x.did) q.same)) (counts_call Miniport called.Send s.did);
@@ -99,6 +100,6 @@ module _ (old : BookView) (l : ListView) (k : IsBook old) (i : IsIdle old) (f : 
         did_event old (record { tray = t'; held = miniport_called old.held s' pool' }) (miniport_rows old.tray.net f.x) event.Pump no_choice reply.Moved k i e.ends
             (ap (λ o. (pump_of old.tray.net false o).reply) (sym f.first))
             (sym (ap (λ o. (pump_of old.tray.net false o).rows) f.first ∙ first_moved old.tray.net f.x (stand.Passed way.Down (Module Miniport)) (thing.List f.x) refl f.stand))
-            refl,
+            refl tt (refl, refl),
         e.turns,
       )

@@ -77,6 +77,7 @@ module _ (old : BookView) (t : TrayView) (running : Bool) (k : IsBook old) (g : 
     call = begins_call k g;
     kind = refl;
     port = refl;
+    refusals = omega arith;
     ring = k.stands.ring;
     calls_are = tt;
     counts = counts_none Miniport old.held.miniport.did;
@@ -120,6 +121,7 @@ module _ (old : BookView) (t : TrayView) (running : Bool) (k : IsBook old) (g : 
               call = subst (λ rs. InCall b (hands_of t.queue old.held []) Miniport rs [] (l.frames ∷ []) left (record { front = []; loose = []; kept = rest })) are i;
               kind = refl;
               port = refl;
+              refusals = omega arith;
               ring = omega (arith, low);
               calls_are = tt;
               counts = counts_log Miniport l.frames old.held.miniport.did;
@@ -169,4 +171,4 @@ module _ (old : BookView) (t : TrayView) (running : Bool) (k : IsBook old) (g : 
       let q = subst (λ (x : MiniportState). IsTransmitted x running b result s' d.left) same d.does in
       let o = done result s' d.left (q.by old.held.miniport.kept refl) in
       let e = ended k g o.works d.tray d.pool_is in
-      (did_event old (record { tray = t'; held = miniport_called old.held s' pool' }) (transmit_outcome old.tray.net).rows event.Transmit no_choice (wired_as result) k i e.ends o.reply refl refl, e.turns)
+      (did_event old (record { tray = t'; held = miniport_called old.held s' pool' }) (transmit_outcome old.tray.net).rows event.Transmit no_choice (wired_as result) k i e.ends o.reply refl refl tt (refl, refl), e.turns)

@@ -37,20 +37,20 @@ paused old b t f next k i g e none at below made =
     subst (λ (n : Net). DriversFit n.head.port old.held (after_rows n rows).phase) (sym g.net) (drivers_after old.tray.net old.tray.net.head.port old.held f next e k.stands.drivers) in
     did_event old _ rows event.PauseNext any_choice (next_reply next) k i
     (subst (λ x. Ends old (record { tray = x; held = old.held }) rows) (sym made) (ends_moved rows k g (rows_phases f next) drivers))
-    (paused_reply_is old.tray.net next e none below) (paused_rows_are old.tray.net f next e none at below) refl
+    (paused_reply_is old.tray.net next e none below) (paused_rows_are old.tray.net f next e none at below) refl tt (refl, refl)
 
 waits : (old : BookView) (t : TrayView) (n : ℕ) → IsBook old → IsIdle old → Begins old.tray t [] → old.tray.net.phase ≡ phase.Pausing → n ≡ outstanding old.tray.net (first_unpaused old.tray.net) → 0 < n
     → DidEvent old (record { tray = t; held = old.held }) event.PauseNext (reply.Waiting n)
 waits old t n k i g e is some =
     let out = waiting_outcome old.tray.net n e is some in
-    did_event old _ [] event.PauseNext any_choice (reply.Waiting n) k i (ends_still t k g) (ap (λ (o : Outcome). o.reply) (sym out)) (ap (λ (o : Outcome). o.rows) (sym out)) refl
+    did_event old _ [] event.PauseNext any_choice (reply.Waiting n) k i (ends_still t k g) (ap (λ (o : Outcome). o.reply) (sym out)) (ap (λ (o : Outcome). o.rows) (sym out)) refl tt (refl, refl)
 
 pub not_paused : (old : BookView) (t : TrayView) (now : Phase) → IsBook old → IsIdle old → Begins old.tray t [] → now ≡ old.tray.net.phase → ¬ (now ≡ phase.Pausing)
     → DidEvent old (record { tray = t; held = old.held }) event.PauseNext (reply.Refused (refusal.WrongPhase now))
 not_paused old t now k i g is still =
     let out = still_outcome old.tray.net (λ e. still (is ∙ e)) in
     did_event old _ [] event.PauseNext any_choice _ k i (ends_still t k g)
-    (ap (λ p. reply.Refused (refusal.WrongPhase p)) is ∙ ap (λ (o : Outcome). o.reply) (sym out)) (ap (λ (o : Outcome). o.rows) (sym out)) refl
+    (ap (λ p. reply.Refused (refusal.WrongPhase p)) is ∙ ap (λ (o : Outcome). o.reply) (sym out)) (ap (λ (o : Outcome). o.rows) (sym out)) refl tt (refl, refl)
 
 -- where the drivers are as they were, and for the reply that is given
 given : (old : BookView) (t : TrayView) (held : HeldView) (answer r : Reply) → held ≡ old.held → r ≡ answer → DidEvent old (record { tray = t; held = old.held }) event.PauseNext answer

@@ -83,7 +83,7 @@ begun old b t bindings k i g runs all made =
     subst (λ p. DriversFit b.net.head.port old.held p) (sym paused) (subst (λ (n : Net). DriversFit n.head.port old.held phase.Pausing) (sym g.net) drivers) in
     let is = running_outcome old.tray.net (ap phase_is_running was) in
     did_event old _ rows event.BeginPause any_choice reply.Ok k i (subst (λ x. Ends old (record { tray = x; held = old.held }) rows) (sym made) (ends_moved rows k g (begin_phases bindings) fit))
-    (ap (λ (o : Outcome). o.reply) (sym is)) (ap begin_rows all ∙ ap (λ (o : Outcome). o.rows) (sym is)) refl
+    (ap (λ (o : Outcome). o.reply) (sym is)) (ap begin_rows all ∙ ap (λ (o : Outcome). o.rows) (sym is)) refl tt (refl, refl)
 
 pub not_begun : (old : BookView) (t : TrayView) (now : Phase) → IsBook old → IsIdle old → Begins old.tray t [] → now ≡ t.net.phase → ¬ (now ≡ phase.Running)
     → DidEvent old (record { tray = t; held = old.held }) event.BeginPause (reply.Refused (refusal.WrongPhase now))
@@ -91,7 +91,7 @@ not_begun old t now k i g now_is still =
     let was : now ≡ old.tray.net.phase = now_is ∙ ap (λ (n : Net). n.phase) g.net in
     let is = still_outcome old.tray.net (ap phase_is_running (sym was) ∙ not_running now still) in
     did_event old _ [] event.BeginPause any_choice _ k i (ends_still t k g)
-    (ap (λ p. reply.Refused (refusal.WrongPhase p)) was ∙ ap (λ (o : Outcome). o.reply) (sym is)) (ap (λ (o : Outcome). o.rows) (sym is)) refl
+    (ap (λ p. reply.Refused (refusal.WrongPhase p)) was ∙ ap (λ (o : Outcome). o.reply) (sym is)) (ap (λ (o : Outcome). o.rows) (sym is)) refl tt (refl, refl)
 
 -- room for a turn is left
 pub turns_left : (b t : TrayView) (bindings : ℕ) → 1 ≤ b.room.turns → t ≡ each_written b (begin_rows bindings) → 1 ≤ t.room.turns

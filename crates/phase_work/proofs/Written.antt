@@ -134,6 +134,7 @@ did_nothing seats old new net rows calls log c = record {
   protocols = λ i. served_same (Binding i) net rows _ _ calls (log (Binding i)) (c.protocols i);
   filters = λ f place seat. served_same (Filter f) net rows _ _ calls (log (Filter f)) (c.filters place);
   shelved = λ place none. record { calls = λ what. ap (λ (r : Record). times r.served what) (c.filters place); log = ap (λ (r : Record). r.log) (c.filters place) };
+  keeps = c.keeps;
 }
 
 -- An event of such rows ends.

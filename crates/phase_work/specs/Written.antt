@@ -9,17 +9,19 @@ use Rattle.journal_types.specs.declared.Row.{Row}
 use Rattle.journal_types.specs.declared.Row.TheVariants as row
 use Rattle.stack_rules.specs.Pauses.{state_rows}
 use Rattle.driver_tray.specs.Tray.{TrayView, written}
+use Rattle.book_lemmas.specs.Did.{KeepsCounts}
 use Rattle.book_lemmas.specs.Views.{HeldView, filter_at, no_protocol}
 
 abbrev pub each_written : TrayView → List Row → TrayView
 each_written t [] = t
 each_written t (r ∷ rows) = each_written (written t r) rows
 
--- no driver counted a call or logged anything
+-- no driver counted a call or logged anything, and no count of refusals fell
 pub record CountsNothing (old new : HeldView) : Type 0 where
   pub miniport : new.miniport.did ≡ old.miniport.did
   pub protocols : (i : ℕ) → (slice_index_or new.protocols i no_protocol).did ≡ (slice_index_or old.protocols i no_protocol).did
   pub filters : (place : ℕ) → (filter_at new.filters (Some place)).did ≡ (filter_at old.filters (Some place)).did
+  pub keeps : KeepsCounts old new
 
 -- so many bindings, from this one on
 abbrev pub bindings_from : ℕ → ℕ → List ModuleId

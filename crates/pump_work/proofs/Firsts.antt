@@ -95,7 +95,7 @@ did_idle old t k i only none g =
     let away : agenda_first net ≡ None = none_away net (hands_of old.tray.queue old.held []) k.stands.agrees (none_is old.tray.queue none) in
     let out : pump_outcome net false ≡ answered reply.Idle = ap (pump_of net false) away ∙ ap (request_pump net) only.requests in
     did_event old _ [] event.Pump any_choice reply.Idle k i (ends_still t k g)
-    (ap (λ (o : Outcome). o.reply) (sym out)) (ap (λ (o : Outcome). o.rows) (sym out)) refl
+    (ap (λ (o : Outcome). o.reply) (sym out)) (ap (λ (o : Outcome). o.rows) (sym out)) refl tt (refl, refl)
 
 -- where a pump moves something, a drain does what a pump does
 pub as_drain : (old new : BookView) (answer : Reply) (by : PassWay) (to : Target) → IsBook old → FirstIs old by to → DidEvent old new event.Pump answer → DidEvent old new event.Drain answer
@@ -111,4 +111,6 @@ as_drain old new answer by to k f d =
       rows = d.rows ∙ ap (λ (o : Outcome). o.rows) (sym same);
       tells = d.tells;
       goes = d.goes;
+      refused = tt;
+      still = d.still;
     }

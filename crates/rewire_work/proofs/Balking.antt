@@ -52,12 +52,17 @@ stands_took {net} {queue} {held} place s b none paused on rests =
     resting_by q vacant (inl e) = subst IsResting (sym (ap (λ k. filter_at (slice_set held.filters place s) (Some k)) e ∙ get_or-set_same held.filters place s no_filter on.is.driver)) rests
     resting_by q vacant (inr ne) = subst IsResting (sym (get_or-set_other held.filters place q s no_filter ne)) (b.resting q vacant)
 
--- what a driver counted and logged is the same at each place
+-- what a driver shows is the same at each place
+pub field_still : {X : Type 0} (g : FilterState → X) (filters : List FilterState) (place : ℕ) (s : FilterState) → place < length filters → g s ≡ g (filter_at filters (Some place)) → (q : ℕ) → (q ≡ place) ⊎ (q ≡ place → ⊥)
+    → g (filter_at (slice_set filters place s) (Some q)) ≡ g (filter_at filters (Some q))
+field_still g filters place s within same q (inl e) =
+    ap (λ k. g (filter_at (slice_set filters place s) (Some k))) e
+    ∙ ap g (get_or-set_same filters place s no_filter within)
+    ∙ same
+    ∙ ap (λ k. g (filter_at filters (Some k))) (sym e)
+field_still g filters place s within same q (inr ne) = ap g (get_or-set_other filters place q s no_filter ne)
+
+-- what it counted and logged
 pub did_still : (filters : List FilterState) (place : ℕ) (s : FilterState) → place < length filters → s.did ≡ (filter_at filters (Some place)).did → (q : ℕ) → (q ≡ place) ⊎ (q ≡ place → ⊥)
     → (filter_at (slice_set filters place s) (Some q)).did ≡ (filter_at filters (Some q)).did
-did_still filters place s within same q (inl e) =
-    ap (λ k. (filter_at (slice_set filters place s) (Some k)).did) e
-    ∙ ap (λ (x : FilterState). x.did) (get_or-set_same filters place s no_filter within)
-    ∙ same
-    ∙ ap (λ k. (filter_at filters (Some k)).did) (sym e)
-did_still filters place s within same q (inr ne) = ap (λ (x : FilterState). x.did) (get_or-set_other filters place q s no_filter ne)
+did_still filters place s within same q which = field_still (λ (x : FilterState). x.did) filters place s within same q which

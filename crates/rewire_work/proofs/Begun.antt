@@ -13,7 +13,7 @@ use Rattle.book_lemmas.proofs.Goes.{used_then}
 use Rattle.book_parts.specs.Events.{IsBook, IsIdle, DidEvent}
 use Rattle.book_parts.proofs.Events.{Begins, unmoved}
 use Rattle.rewire_work.specs.Rested.{IsRoomed}
-use Rattle.rewire_work.specs.Shelves.{FollowsShelf}
+use Rattle.book_lemmas.specs.Shelves.{FollowsShelf}
 use Rattle.book_parts.proofs.Events.{begins_roomed}
 
 -- the book with more room
@@ -49,6 +49,8 @@ did_begun old t new e answer g d =
         used = record { rows_used = used.rows_used; frames = used.frames; bytes = used.bytes; slack = used.slack; turns = used.turns; payloads = used.payloads };
         did = subst (λ n. Did old.held.seats old.held new.held (begun_by n by) new.tray.rows) g.net d.goes.did;
       };
+      refused = d.refused;
+      still = d.still;
     }
 
 pub shelf_begun : (old : BookView) (t : TrayView) (new : BookView) (e : Event) (answer : Reply) → Begins old.tray t [] → FollowsShelf (roomed old t) new e answer → FollowsShelf old new e answer

@@ -18,7 +18,7 @@ use Rattle.book_parts.proofs.Events.{Begins, unmoved}
 use Rattle.rewire_work.specs.Refusals.{insert_refusal}
 use Rattle.rewire_work.specs.Rested.{IsAtRest, IsRoomed}
 use Rattle.rewire_work.specs.Seated.{is_kind_at, Inserts, sits, balks}
-use Rattle.rewire_work.specs.Shelves.{FollowsShelf}
+use Rattle.book_lemmas.specs.Shelves.{FollowsShelf}
 use Rattle.rewire_work.proofs.Begun.{roomed, begins_room, roomed_book, roomed_idle, did_begun, shelf_begun}
 use Rattle.rewire_work.proofs.Causes.{paused_first}
 use Rattle.rewire_work.proofs.Inserted.{IsFirst, is_first, did_refused, did_lack, shelf_refused, did_balk, shelf_balked, did_insert, shelf_insert}

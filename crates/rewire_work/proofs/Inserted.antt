@@ -1,5 +1,5 @@
 -- The event of an insertion.
-use Rattle.std.proofs.Common.{◌≡◌, ℕ, ◌-◌, ◌<◌, Bool, true, false, cond, List, [], ◌∷◌, ◌++◌, Some, None, find, length, refl, sym, ap, ◌∙◌, subst, All, arith, append-nil, ne_eqb, ◌⊎◌, inl, inr}
+use Rattle.std.proofs.Common.{◌≡◌, ℕ, ◌-◌, ◌<◌, Bool, true, false, cond, List, [], ◌∷◌, ◌++◌, Some, None, find, length, refl, sym, ap, ◌∙◌, subst, All, arith, append-nil, ne_eqb, ◌⊎◌, inl, inr, ◌≤◌, get_or-set_same}
 use Rattle.std.specs.List.{insert}
 use Rattle.std.proofs.lemmas.Bool.{cases_eq}
 use Rattle.std.proofs.lemmas.List.Elements.{All-head, All-tail, All-weaker}
@@ -23,9 +23,11 @@ use Rattle.stack_rules.specs.Outcome.{Outcome, refused}
 use Rattle.stack_rules.specs.Pauses.{state_row}
 use Rattle.stack_rules.specs.Rewires.{config_row, inserted, insert_outcome, when_attached}
 use Rattle.promise_rules.specs.Drivers.{Shelf, same_filter_kind, shelf_told, shelf_in_rows, shelf_of, taken_from, driver_of, is_of_kind, without_place}
-use Rattle.driver_views.specs.States.{FilterState}
+use Rattle.driver_views.specs.States.{FilterState, IsRisen}
 use Rattle.driver_tray.specs.Tray.{turn_of}
 use Rattle.driver_calls.specs.Filters.{Refuses}
+use Rattle.book_lemmas.proofs.Keeps.{keeps_set, risen_most}
+use Rattle.rewire_work.proofs.Asking.{insert_asks, not_inserted}
 use Rattle.book_lemmas.specs.Did.{Did, logs_in}
 use Rattle.book_lemmas.specs.Follows.{Follows}
 use Rattle.book_lemmas.specs.Stands.{IsResting, IsShelved}
@@ -40,7 +42,7 @@ use Rattle.phase_work.proofs.Written.{did_nothing}
 use Rattle.rewire_work.specs.Refusals.{insert_refusal, refused_or}
 use Rattle.rewire_work.specs.Rested.{IsAtRest}
 use Rattle.rewire_work.specs.Seated.{is_kind_at, took_state, seated, set_up, pool_for, inserted_tray}
-use Rattle.rewire_work.specs.Shelves.{FollowsShelf}
+use Rattle.book_lemmas.specs.Shelves.{FollowsShelf, HasBalked}
 use Rattle.rewire_work.proofs.Balking.{stands_took, did_still}
 use Rattle.rewire_work.proofs.Causes.{attaches, refuses, lacks, taken, balked, lacking, insert_is, paused_first}
 use Rattle.rewire_work.proofs.Fresh.{AreBelow, shelf_below, none_below}
@@ -100,6 +102,7 @@ did_refused old kind position setup cause k i e =
     let is : insert_outcome old.tray.net position attaches ≡ refused cause = insert_is old.tray.net position attaches ∙ ap (λ c. refused_or c (when_attached attaches (inserted old.tray.net position))) e in
     did_event old old [] (event.Insert kind position setup) attaches (reply.Refused cause) k i (same_ends old k)
     (sym (ap (λ (o : Outcome). o.reply) is)) (sym (ap (λ (o : Outcome). o.rows) is)) refl
+    (not_inserted kind position setup cause old.held old.held (λ c. insert_asks old.tray.net position (e ∙ ap (λ x. Some x) c))) tt
   where
     same_ends : (b : BookView) → IsBook b → Ends b b []
     same_ends b k = ends_still b.tray k (record { head = refl; turns = refl; told_by = refl; net = refl; rows = refl; queue = refl; used = used_none b.tray })
@@ -112,20 +115,27 @@ did_lack old kind position setup k i e =
     insert_is old.tray.net position lacks ∙ ap (λ c. refused_or c (when_attached lacks (inserted old.tray.net position))) e ∙ lacking (inserted old.tray.net position) in
     did_event old old [] (event.Insert kind position setup) lacks (reply.Refused refusal.ShelfEmpty) k i
     (ends_still old.tray k (record { head = refl; turns = refl; told_by = refl; net = refl; rows = refl; queue = refl; used = used_none old.tray }))
-    (sym (ap (λ (o : Outcome). o.reply) is)) (sym (ap (λ (o : Outcome). o.rows) is)) refl
+    (sym (ap (λ (o : Outcome). o.reply) is)) (sym (ap (λ (o : Outcome). o.rows) is)) refl tt tt
 
 pub shelf_refused : (old : BookView) (kind : FilterKind) (position : ℕ) (setup : Setup) (cause : Refusal) → IsIdle old → FollowsShelf old old (event.Insert kind position setup) (reply.Refused cause)
 shelf_refused old kind position setup cause i = follows_still old old _ _ i.rows refl refl refl refl refl (λ kinds shelf. refl)
 
 -- the driver refused
-counts_took : (held : HeldView) (place : ℕ) (s : FilterState) → place < length held.filters → s.did ≡ (filter_at held.filters (Some place)).did → CountsNothing held (took_state held place s)
-counts_took held place s within same = record { miniport = refl; protocols = λ i. refl; filters = λ q. did_still held.filters place s within same q (cases_eq q place) }
+counts_took : (held : HeldView) (place : ℕ) (s : FilterState) → place < length held.filters → s.did ≡ (filter_at held.filters (Some place)).did → s.kind ≡ (filter_at held.filters (Some place)).kind
+    → (filter_at held.filters (Some place)).refusals ≤ s.refusals → CountsNothing held (took_state held place s)
+counts_took held place s within same kind rose = record {
+  miniport = refl;
+  protocols = λ i. refl;
+  filters = λ q. did_still held.filters place s within same q (cases_eq q place);
+  keeps = keeps_set held (took_state held place s) place s (omega arith) refl within kind rose;
+}
 
 pub ends_took : (old : BookView) (kind : FilterKind) (place : ℕ) (s : FilterState) → IsBook old → IsIdle old → old.tray.net.phase ≡ phase.Paused → IsFirst old kind place
     → Refuses (filter_at old.held.filters (Some place)) s → Ends old (record { tray = old.tray; held = took_state old.held place s }) []
 ends_took old kind place s k i paused first r =
     let rests : IsResting s = record { setup = ap (λ (x : FilterState). x.setup) r.same ∙ first.rests.setup; kept = ap (λ (x : FilterState). x.kept) r.same ∙ first.rests.kept } in
-    let counts : CountsNothing old.held (took_state old.held place s) = counts_took old.held place s first.on.is.driver (ap (λ (x : FilterState). x.did) r.same) in
+    let counts : CountsNothing old.held (took_state old.held place s) = 
+    counts_took old.held place s first.on.is.driver (ap (λ (x : FilterState). x.did) r.same) (ap (λ (x : FilterState). x.kind) r.same) (risen_most (filter_at old.held.filters (Some place)).refusals s.refusals r.rose) in
     record {
       head = refl;
       turns = refl;
@@ -137,6 +147,13 @@ ends_took old kind place s k i paused first r =
       stands = stands_took place s k.stands (at_rest old k i paused).nothing paused first.on rests;
     }
 
+pub has_balked : (old : BookView) (kind : FilterKind) (place : ℕ) (s : FilterState) → IsFirst old kind place → Refuses (filter_at old.held.filters (Some place)) s → HasBalked kind old.held (took_state old.held place s)
+has_balked old kind place s first r = record {
+  place = place;
+  first = first.found;
+  rose = subst (λ (x : FilterState). IsRisen (filter_at old.held.filters (Some place)).refusals x.refusals) (sym (get_or-set_same old.held.filters place s no_filter first.on.is.driver)) r.rose;
+}
+
 pub did_balk : (old : BookView) (kind : FilterKind) (position : ℕ) (setup : Setup) (place : ℕ) (s : FilterState) → IsBook old → IsIdle old → insert_refusal old.tray.net position ≡ None → IsFirst old kind place
     → Refuses (filter_at old.held.filters (Some place)) s → DidEvent old (record { tray = old.tray; held = took_state old.held place s }) (event.Insert kind position setup) (reply.Refused refusal.AttachRefused)
 did_balk old kind position setup place s k i e first r =
@@ -144,7 +161,7 @@ did_balk old kind position setup place s k i e first r =
     insert_is old.tray.net position refuses ∙ ap (λ c. refused_or c (when_attached refuses (inserted old.tray.net position))) e ∙ balked (inserted old.tray.net position) in
     did_event old (record { tray = old.tray; held = took_state old.held place s }) [] (event.Insert kind position setup) refuses (reply.Refused refusal.AttachRefused) k i
     (ends_took old kind place s k i (paused_first old.tray.net _ e) first r)
-    (sym (ap (λ (o : Outcome). o.reply) is)) (sym (ap (λ (o : Outcome). o.rows) is)) refl
+    (sym (ap (λ (o : Outcome). o.reply) is)) (sym (ap (λ (o : Outcome). o.rows) is)) refl (has_balked old kind place s first r) tt
 
 pub shelf_balked : (old : BookView) (kind : FilterKind) (position : ℕ) (setup : Setup) (place : ℕ) (s : FilterState) → IsIdle old → Refuses (filter_at old.held.filters (Some place)) s
     → FollowsShelf old (record { tray = old.tray; held = took_state old.held place s }) (event.Insert kind position setup) (reply.Refused refusal.AttachRefused)
@@ -206,7 +223,12 @@ module _ (old : BookView) (kind : FilterKind) (position : ℕ) (setup : Setup) (
   no_logs (Binding b) = refl
 
   counts : CountsNothing old.held new.held
-  counts = record { miniport = refl; protocols = λ j. refl; filters = λ q. did_still old.held.filters place s first.on.is.driver refl q (cases_eq q place) }
+  counts = record {
+    miniport = refl;
+    protocols = λ j. refl;
+    filters = λ q. did_still old.held.filters place s first.on.is.driver refl q (cases_eq q place);
+    keeps = keeps_set old.held new.held place s (omega arith) refl first.on.is.driver refl (omega arith);
+  }
 
   did_rows : Did old.held.seats old.held new.held (with_filter f kind setup old.tray.net) rows
   did_rows = did_nothing old.held.seats old.held new.held (with_filter f kind setup old.tray.net) rows refl no_logs counts
@@ -232,6 +254,8 @@ module _ (old : BookView) (kind : FilterKind) (position : ℕ) (setup : Setup) (
       used = subst (λ rs. HasUsed (begun_with old new.tray.told_by).tray rs new.tray) (sym rows_are) used_rows;
       did = subst (λ rs. Did old.held.seats old.held new.held (with_filter f kind setup old.tray.net) rs) (sym rows_are) did_rows;
     };
+    refused = tt;
+    still = tt;
   }
 
   same_kinds : kinds_of new.held ≡ kinds_of old.held

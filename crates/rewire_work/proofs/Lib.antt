@@ -1,4 +1,5 @@
 pub mod Asked
+pub mod Asking
 pub mod AskedThird
 pub mod AskedToo
 pub mod Balking

@@ -20,6 +20,7 @@ use Rattle.promise_rules.specs.Drivers.{Shelf, shelf_in_rows, shelf_of, with_pla
 use Rattle.agenda_items.specs.declared.Carried.{Carried}
 use Rattle.driver_views.specs.States.{FilterState}
 use Rattle.driver_tray.specs.Tray.{begun_by, turn_of}
+use Rattle.book_lemmas.proofs.Keeps.{keeps_set}
 use Rattle.book_lemmas.specs.Did.{logs_in}
 use Rattle.book_lemmas.specs.Stands.{Stands, IsShelved, DriversFit}
 use Rattle.book_lemmas.specs.Views.{BookView, HeldView, filter_at, seat_of, hands_of}
@@ -29,7 +30,7 @@ use Rattle.book_parts.proofs.Events.{did_event, ends_still}
 use Rattle.rewire_work.specs.Refusals.{rewire_refusal, refused_or}
 use Rattle.rewire_work.specs.Rested.{IsAtRest}
 use Rattle.rewire_work.specs.Seated.{unseated, put_down, removed_tray}
-use Rattle.rewire_work.specs.Shelves.{FollowsShelf}
+use Rattle.book_lemmas.specs.Shelves.{FollowsShelf}
 use Rattle.rewire_work.proofs.Balking.{did_still}
 use Rattle.rewire_work.proofs.Causes.{attaches, remove_is, paused_first, is_there}
 use Rattle.rewire_work.proofs.Empty.{kept_none}
@@ -45,7 +46,7 @@ did_not_remove old f cause k i e =
     let is : remove_outcome old.tray.net f ≡ refused cause = remove_is old.tray.net f ∙ ap (λ c. refused_or c (removed old.tray.net f)) e in
     did_event old old [] (event.Remove f) attaches (reply.Refused cause) k i
     (ends_still old.tray k (record { head = refl; turns = refl; told_by = refl; net = refl; rows = refl; queue = refl; used = used_none old.tray }))
-    (sym (ap (λ (o : Outcome). o.reply) is)) (sym (ap (λ (o : Outcome). o.rows) is)) refl
+    (sym (ap (λ (o : Outcome). o.reply) is)) (sym (ap (λ (o : Outcome). o.rows) is)) refl tt tt
 
 pub shelf_not_removed : (old : BookView) (f : ℕ) (cause : Refusal) → IsIdle old → FollowsShelf old old (event.Remove f) (reply.Refused cause)
 shelf_not_removed old f cause i = follows_still old old _ _ i.rows refl refl refl refl refl (λ kinds shelf. refl)
@@ -139,10 +140,10 @@ module _ (old : BookView) (f place : ℕ) (k : IsBook old) (i : IsIdle old) (res
         };
         calls = refl;
         logs = no_logs;
-        counts = record { miniport = refl; protocols = λ j. refl; filters = λ q. did_still old.held.filters place s may.is.driver refl q (cases_eq q place) };
+        counts = record { miniport = refl; protocols = λ j. refl; filters = λ q. did_still old.held.filters place s may.is.driver refl q (cases_eq q place); keeps = keeps_set old.held new.held place s (omega arith) refl may.is.driver refl (omega arith) };
         stands = stands;
       })
-      (sym (ap (λ (o : Outcome). o.reply) outcome_is)) (sym (ap (λ (o : Outcome). o.rows) outcome_is))
+      (sym (ap (λ (o : Outcome). o.reply) outcome_is)) (sym (ap (λ (o : Outcome). o.rows) outcome_is)) tt tt
 
   -- its driver is the one that is promised
   same_driver : IsShelved old.tray.net old.tray.turns old.held → Some place ≡ driver_of (shelf_of (kinds_of old.held) old.tray.turns).drivers f

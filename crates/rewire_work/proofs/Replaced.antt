@@ -25,6 +25,8 @@ use Rattle.promise_rules.specs.Drivers.{Shelf, shelf_told, shelf_in_rows, shelf_
 use Rattle.driver_views.specs.States.{FilterState}
 use Rattle.driver_tray.specs.Tray.{turn_of}
 use Rattle.driver_calls.specs.Filters.{Refuses}
+use Rattle.book_lemmas.specs.Did.{KeepsCounts}
+use Rattle.book_lemmas.proofs.Keeps.{keeps_set, keeps_then}
 use Rattle.book_lemmas.specs.Did.{logs_in}
 use Rattle.book_lemmas.specs.Stands.{Stands, IsShelved, DriversFit}
 use Rattle.book_lemmas.specs.Views.{BookView, HeldView, filter_at, seat_of}
@@ -34,10 +36,11 @@ use Rattle.book_parts.proofs.Events.{did_event, ends_still}
 use Rattle.rewire_work.specs.Refusals.{rewire_refusal, refused_or}
 use Rattle.rewire_work.specs.Rested.{IsAtRest}
 use Rattle.rewire_work.specs.Seated.{took_state, seated, unseated, set_up, put_down, pool_for, replaced_tray}
-use Rattle.rewire_work.specs.Shelves.{FollowsShelf}
+use Rattle.book_lemmas.specs.Shelves.{FollowsShelf}
 use Rattle.rewire_work.proofs.Balking.{did_still}
 use Rattle.rewire_work.proofs.Causes.{attaches, refuses, lacks, taken, balked, lacking, replace_is, paused_first, is_there}
-use Rattle.rewire_work.proofs.Inserted.{IsFirst, next_free, first_taken, ends_took}
+use Rattle.rewire_work.proofs.Asking.{rewire_asks, not_exchanged}
+use Rattle.rewire_work.proofs.Inserted.{IsFirst, next_free, first_taken, ends_took, has_balked}
 use Rattle.rewire_work.proofs.Inserting.{stands_inserted, was_there}
 use Rattle.rewire_work.proofs.Orders.{less, attached_gone, attached_less, in_below}
 use Rattle.rewire_work.proofs.Removed.{is_sitting, may_rise}
@@ -55,6 +58,7 @@ did_not_replace old f kind setup cause k i e =
     did_event old old [] (event.Replace f kind setup) attaches (reply.Refused cause) k i
     (ends_still old.tray k (record { head = refl; turns = refl; told_by = refl; net = refl; rows = refl; queue = refl; used = used_none old.tray }))
     (sym (ap (λ (o : Outcome). o.reply) is)) (sym (ap (λ (o : Outcome). o.rows) is)) refl
+    (not_exchanged f kind setup cause old.held old.held (λ c. rewire_asks old.tray.net f (e ∙ ap (λ x. Some x) c))) tt
 
 pub did_lack_one : (old : BookView) (f : ℕ) (kind : FilterKind) (setup : Setup) → IsBook old → IsIdle old → rewire_refusal old.tray.net f ≡ None
     → DidEvent old old (event.Replace f kind setup) (reply.Refused refusal.ShelfEmpty)
@@ -63,7 +67,7 @@ did_lack_one old f kind setup k i e =
     replace_is old.tray.net f lacks ∙ ap (λ c. refused_or c (when_attached lacks (replaced old.tray.net f))) e ∙ lacking (replaced old.tray.net f) in
     did_event old old [] (event.Replace f kind setup) lacks (reply.Refused refusal.ShelfEmpty) k i
     (ends_still old.tray k (record { head = refl; turns = refl; told_by = refl; net = refl; rows = refl; queue = refl; used = used_none old.tray }))
-    (sym (ap (λ (o : Outcome). o.reply) is)) (sym (ap (λ (o : Outcome). o.rows) is)) refl
+    (sym (ap (λ (o : Outcome). o.reply) is)) (sym (ap (λ (o : Outcome). o.rows) is)) refl tt tt
 
 pub shelf_not_replaced : (old : BookView) (f : ℕ) (kind : FilterKind) (setup : Setup) (cause : Refusal) → IsIdle old → FollowsShelf old old (event.Replace f kind setup) (reply.Refused cause)
 shelf_not_replaced old f kind setup cause i = follows_still old old _ _ i.rows refl refl refl refl refl (λ kinds shelf. refl)
@@ -75,7 +79,7 @@ did_balk_replaced old f kind setup place s k i e first r =
     replace_is old.tray.net f refuses ∙ ap (λ c. refused_or c (when_attached refuses (replaced old.tray.net f))) e ∙ balked (replaced old.tray.net f) in
     did_event old (record { tray = old.tray; held = took_state old.held place s }) [] (event.Replace f kind setup) refuses (reply.Refused refusal.AttachRefused) k i
     (ends_took old kind place s k i (paused_first old.tray.net _ e) first r)
-    (sym (ap (λ (o : Outcome). o.reply) is)) (sym (ap (λ (o : Outcome). o.rows) is)) refl
+    (sym (ap (λ (o : Outcome). o.reply) is)) (sym (ap (λ (o : Outcome). o.rows) is)) refl (has_balked old kind place s first r) tt
 
 pub shelf_balked_replaced : (old : BookView) (f : ℕ) (kind : FilterKind) (setup : Setup) (place : ℕ) (s : FilterState) → IsIdle old → Refuses (filter_at old.held.filters (Some place)) s
     → FollowsShelf old (record { tray = old.tray; held = took_state old.held place s }) (event.Replace f kind setup) (reply.Refused refusal.AttachRefused)
@@ -207,6 +211,12 @@ module _ (old : BookView) (f : ℕ) (kind : FilterKind) (setup : Setup) (place q
   did_same : (p : ℕ) → (filter_at new.held.filters (Some p)).did ≡ (filter_at old.held.filters (Some p)).did
   did_same p = did_still sat.filters q d may.is.driver refl p (cases_eq p q) ∙ did_still old.held.filters place s first.on.is.driver refl p (cases_eq p place)
 
+  keeps : KeepsCounts old.held new.held
+  keeps =
+      keeps_then old.held sat new.held
+      (keeps_set old.held sat place s (omega arith) refl first.on.is.driver refl (omega arith))
+      (keeps_set sat new.held q d (omega arith) refl may.is.driver refl (omega arith))
+
   pub did_replace : DidEvent old new e (reply.Replaced n)
   did_replace =
       let four : length rows ≡ 4 = refl in
@@ -227,10 +237,10 @@ module _ (old : BookView) (f : ℕ) (kind : FilterKind) (setup : Setup) (place q
         };
         calls = refl;
         logs = no_logs;
-        counts = record { miniport = refl; protocols = λ j. refl; filters = did_same };
+        counts = record { miniport = refl; protocols = λ j. refl; filters = did_same; keeps = keeps };
         stands = stands;
       })
-      (sym (ap (λ (o : Outcome). o.reply) outcome_is)) (sym (ap (λ (o : Outcome). o.rows) outcome_is))
+      (sym (ap (λ (o : Outcome). o.reply) outcome_is)) (sym (ap (λ (o : Outcome). o.rows) outcome_is)) tt tt
 
   abbrev shelf : Shelf
   shelf = shelf_of (kinds_of old.held) old.tray.turns

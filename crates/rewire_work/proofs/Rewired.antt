@@ -11,6 +11,7 @@ use Rattle.driver_tray.specs.Tray.{begun_by}
 use Rattle.journal_types.specs.declared.StackHead.{StackHead}
 use Rattle.std.proofs.Common.{◌≤◌, length}
 use Rattle.book_lemmas.specs.Did.{Did, calls_in, logs_in}
+use Rattle.book_lemmas.specs.Shelves.{Balks, IsStill}
 use Rattle.book_lemmas.specs.Stands.{Stands}
 use Rattle.book_lemmas.specs.Turns.{HasUsed}
 use Rattle.book_lemmas.specs.Views.{BookView}
@@ -33,8 +34,9 @@ pub record Rewires (old new : BookView) (e : Event) (answer : Reply) (rows : Lis
   pub stands : Stands new.tray.net new.tray.queue new.held []
 
 pub did_rewire : (old new : BookView) (e : Event) (answer : Reply) (choice : Choice) (rows : List Row) → IsBook old → IsIdle old → Rewires old new e answer rows
-    → answer ≡ (outcome old.tray.net e choice).reply → rows ≡ (outcome old.tray.net e choice).rows → DidEvent old new e answer
-did_rewire old new e answer choice rows k i w reply is =
+    → answer ≡ (outcome old.tray.net e choice).reply → rows ≡ (outcome old.tray.net e choice).rows
+    → Balks e answer old.held new.held → IsStill e old.held new.held → DidEvent old new e answer
+did_rewire old new e answer choice rows k i w reply is refused still =
     let by : Option (Event × Reply) = new.tray.told_by in
     let begun : new.tray.net ≡ after_rows (begun_by old.tray.net by) new.tray.rows =
     w.net ∙ ap (λ n. after_rows n rows) (sym w.tells) ∙ ap (after_rows (begun_by old.tray.net by)) (sym w.rows_are) in
@@ -63,4 +65,6 @@ did_rewire old new e answer choice rows k i w reply is =
         used = record { rows_used = used.rows_used; frames = used.frames; bytes = used.bytes; slack = used.slack; turns = used.turns; payloads = used.payloads };
         did = subst (λ n. Did old.held.seats old.held new.held n new.tray.rows) (sym w.tells) (subst (λ rs. Did old.held.seats old.held new.held (told old.tray.net e answer) rs) (sym w.rows_are) did);
       };
+      refused = refused;
+      still = still;
     }

@@ -16,7 +16,7 @@ use Rattle.driver_tray.specs.Tray.{turn_of}
 use Rattle.book_lemmas.specs.Stands.{IsShelved}
 use Rattle.book_lemmas.specs.Views.{BookView, HeldView, no_filter, filter_at, seat_of}
 use Rattle.rewire_work.specs.Seated.{is_kind_at}
-use Rattle.rewire_work.specs.Shelves.{FollowsShelf}
+use Rattle.book_lemmas.specs.Shelves.{FollowsShelf}
 
 -- the kinds of the drivers, by place
 abbrev pub kinds_of : HeldView → List FilterKind

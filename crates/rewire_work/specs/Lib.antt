@@ -1,5 +1,4 @@
 pub mod Refusals
 pub mod Rested
 pub mod Reseated
-pub mod Shelves
 pub mod Seated

@@ -12,7 +12,7 @@ ghost use Rattle.book_parts.specs.Events.{IsBook, IsIdle, DidEvent, IsUnmoved, C
 ghost use Rattle.rewire_work.specs.Refusals.{insert_refusal};
 ghost use Rattle.rewire_work.specs.Rested.{IsAtRest, IsRoomed, IsReady};
 ghost use Rattle.rewire_work.specs.Seated.{is_kind_at, attaching, reordered, Inserts};
-ghost use Rattle.rewire_work.specs.Shelves.{FollowsShelf};
+ghost use Rattle.book_lemmas.specs.Shelves.{FollowsShelf};
 
 use crate::quiet::{insert_refusal, live_count};
 use crate::room::{make_room, write_attached, write_order};

@@ -10,7 +10,7 @@ ghost use Rattle.book_parts.specs.Parts.{view_of};
 ghost use Rattle.book_parts.specs.Events.{IsBook, IsIdle, DidEvent, IsUnmoved, CanEnd};
 ghost use Rattle.rewire_work.specs.Rested.{IsAtRest, IsReady};
 ghost use Rattle.rewire_work.specs.Seated.{Removes};
-ghost use Rattle.rewire_work.specs.Shelves.{FollowsShelf};
+ghost use Rattle.book_lemmas.specs.Shelves.{FollowsShelf};
 
 use crate::quiet::{is_low, live_count, rewire_refusal};
 use crate::room::{make_room, write_order};

@@ -11,7 +11,7 @@ ghost use Rattle.book_parts.specs.Events.{IsBook, IsIdle, DidEvent, IsUnmoved, C
 ghost use Rattle.rewire_work.specs.Refusals.{rewire_refusal};
 ghost use Rattle.rewire_work.specs.Rested.{IsAtRest, IsReady};
 ghost use Rattle.rewire_work.specs.Seated.{is_kind_at, Replaces};
-ghost use Rattle.rewire_work.specs.Shelves.{FollowsShelf};
+ghost use Rattle.book_lemmas.specs.Shelves.{FollowsShelf};
 
 use crate::inserts::next_number;
 use crate::quiet::{live_count, rewire_refusal};

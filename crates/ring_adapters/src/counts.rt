@@ -1,7 +1,7 @@
 //! What each adapter counts.
 ghost use Rattle.std.specs.Prelude.{◌≡◌};
 ghost use Rattle.driver_views.specs.States.{not_called};
-ghost use Rattle.driver_calls.specs.Rooms.{IsRisen};
+ghost use Rattle.driver_views.specs.States.{IsRisen};
 
 use driver_views::Served;
 

@@ -33,6 +33,7 @@ use Rattle.hand_lemmas.specs.Hands.{IsSame}
 use Rattle.hand_lemmas.proofs.Rows.{agrees_same, configured}
 use Rattle.driver_tray.specs.Tray.{TrayView, written}
 use Rattle.driver_tray.specs.Tray as tray
+use Rattle.book_lemmas.proofs.Keeps.{keeps_same, risen_most}
 use Rattle.book_lemmas.specs.Did.{Did}
 use Rattle.book_lemmas.specs.Leaves.{ArePhases, IsSeatedStill, WasAttached}
 use Rattle.book_lemmas.specs.Stands.{Stands, IsSized, IsPoolOf, IsSeated, DriversFit}
@@ -68,6 +69,7 @@ counts_up port held = record {
   miniport = refl;
   protocols = opened_field (λ (s : ProtocolState). s.did) (λ s. refl) held.protocols;
   filters = λ place. refl;
+  keeps = keeps_same held (set_up port held) (omega arith) refl;
 }
 
 hands_up : (port : PortSetup) (held : HeldView) (queue : List Carried) → IsSame (hands_of queue held []) (hands_of queue (set_up port held) [])
@@ -185,7 +187,7 @@ initialized old b t held n k i g halted all made up =
     subst (λ x. Ends old (record { tray = x; held = held }) rows) (sym made)
     (subst (λ h. Ends old (record { tray = written_up b n; held = h }) rows) (sym up) (ends_up old b n k g)) in
     let is : initialize_outcome old.tray.net false ≡ record { reply = reply.Ok; rows = initialize_rows old.tray.net } = halted_outcome old.tray.net false _ (sym (was_halted old b g halted)) refl in
-    did_event old _ rows event.Initialize (choosing false) reply.Ok k i ends (ap (λ (o : Outcome). o.reply) (sym is)) (rows_are n old.tray.net all ∙ ap (λ (o : Outcome). o.rows) (sym is)) refl
+    did_event old _ rows event.Initialize (choosing false) reply.Ok k i ends (ap (λ (o : Outcome). o.reply) (sym is)) (rows_are n old.tray.net all ∙ ap (λ (o : Outcome). o.rows) (sym is)) refl tt (ap (λ (h : HeldView). h.shelf) up, ap (λ (h : HeldView). h.seats) up)
 
 -- the miniport refused
 abbrev refusing : HeldView → ℕ → HeldView
@@ -208,13 +210,13 @@ fit_refused held r port phase.Restarting d = d
 fit_refused held r port phase.Running d = d
 fit_refused held r port phase.Pausing d = d
 
-ends_refused : (old : BookView) (b : TrayView) (r : ℕ) → IsBook old → Begins old.tray b [] → Ends old (record { tray = b; held = refusing old.held r }) []
-ends_refused old b r k g =
+ends_refused : (old : BookView) (b : TrayView) (r : ℕ) → IsBook old → Begins old.tray b [] → old.held.miniport.refusals ≤ r → Ends old (record { tray = b; held = refusing old.held r }) []
+ends_refused old b r k g rose =
     let s : Stands b.net b.queue old.held [] = begins_stands k g in
     let now : HeldView = refusing old.held r in
     ends_phases now [] b k g (has_written [] b tt) tt
     (miniport_leaves old.held (record old.held.miniport { refusals = r }) old.held.miniport_pool refl refl refl refl)
-    (record { miniport = refl; protocols = λ i. refl; filters = λ place. refl })
+    (record { miniport = refl; protocols = λ i. refl; filters = λ place. refl; keeps = keeps_same old.held now rose refl })
     (agrees_same b.net (hands_of b.queue old.held []) (hands_of b.queue now []) (record { queue = refl; loose = refl; kept = λ m. sym (kept_refused old.held r m); pools = λ m. sym (pool_refused old.held r m) }) s.agrees)
     (record { carried = s.sized.carried; loose_sized = s.sized.loose_sized; kept = λ m. subst (All IsSized) (sym (kept_refused old.held r m)) (s.sized.kept m) })
     s.ring (fit_refused old.held r b.net.head.port b.net.phase s.drivers)
@@ -227,9 +229,9 @@ pub not_initialized : (old : BookView) (b : TrayView) (held : HeldView) → IsBo
     → DidEvent old (record { tray = b; held = held }) event.Initialize (reply.Refused refusal.InitRefused)
 not_initialized old b held k i g halted r same =
     let ends : Ends old (record { tray = b; held = held }) [] =
-    subst (λ h. Ends old (record { tray = b; held = h }) []) (sym (held_refused old.held held r same)) (ends_refused old b held.miniport.refusals k g) in
+    subst (λ h. Ends old (record { tray = b; held = h }) []) (sym (held_refused old.held held r same)) (ends_refused old b held.miniport.refusals k g (risen_most old.held.miniport.refusals held.miniport.refusals r.miniport.rose)) in
     let is : initialize_outcome old.tray.net true ≡ refused refusal.InitRefused = halted_outcome old.tray.net true _ (sym (was_halted old b g halted)) refl in
-    did_event old _ [] event.Initialize (choosing true) _ k i ends (ap (λ (o : Outcome). o.reply) (sym is)) (ap (λ (o : Outcome). o.rows) (sym is)) refl
+    did_event old _ [] event.Initialize (choosing true) _ k i ends (ap (λ (o : Outcome). o.reply) (sym is)) (ap (λ (o : Outcome). o.rows) (sym is)) refl r.miniport.rose (ap (λ (h : HeldView). h.shelf) same, ap (λ (h : HeldView). h.seats) same)
 
 -- the stack isn't Halted
 not_halted : (p : Phase) → ¬ (p ≡ phase.Halted) → phase_is_halted p ≡ false
@@ -245,7 +247,7 @@ wrong_phase old t now k i g now_is other =
     let was : now ≡ old.tray.net.phase = now_is ∙ ap (λ (n : Net). n.phase) g.net in
     let is : initialize_outcome old.tray.net false ≡ refused (refusal.WrongPhase old.tray.net.phase) = cond-false (phase_is_halted old.tray.net.phase) _ _ (ap phase_is_halted (sym was) ∙ not_halted now other) in
     did_event old _ [] event.Initialize (choosing false) _ k i (ends_still t k g)
-    (ap (λ p. reply.Refused (refusal.WrongPhase p)) was ∙ ap (λ (o : Outcome). o.reply) (sym is)) (ap (λ (o : Outcome). o.rows) (sym is)) refl
+    (ap (λ p. reply.Refused (refusal.WrongPhase p)) was ∙ ap (λ (o : Outcome). o.reply) (sym is)) (ap (λ (o : Outcome). o.rows) (sym is)) refl tt (refl, refl)
 
 -- room for a turn is left
 pub turns_left : (b t : TrayView) (n : ℕ) → 1 ≤ b.room.turns → t ≡ written_up b n → 1 ≤ t.room.turns

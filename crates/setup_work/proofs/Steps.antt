@@ -181,7 +181,7 @@ restarted old b t held begun answer p k i g phase_is steps told_at made same ans
     let was : restart_outcome old.tray.net ≡ restart_outcome b.net = ap restart_outcome (sym g.net) in
     did_event old _ rows event.RestartNext any_choice answer k i ends
     (answered ∙ ap (λ (o : Outcome). o.reply) (sym is) ∙ ap (λ (o : Outcome). o.reply) (sym was))
-    (ap (next_rows b.net) told ∙ ap (λ (o : Outcome). o.rows) (sym is) ∙ ap (λ (o : Outcome). o.rows) (sym was)) refl
+    (ap (next_rows b.net) told ∙ ap (λ (o : Outcome). o.rows) (sym is) ∙ ap (λ (o : Outcome). o.rows) (sym was)) refl tt (ap (λ (h : HeldView). h.shelf) same, ap (λ (h : HeldView). h.seats) same)
 
 -- in another phase
 still_outcome : (net : Net) (p : Phase) → net.phase ≡ p → ¬ (p ≡ phase.Paused) → ¬ (p ≡ phase.Restarting) → restart_outcome net ≡ refused (refusal.WrongPhase net.phase)
@@ -201,7 +201,7 @@ not_restarted old t now k i g now_is paused restarting =
     let was : now ≡ old.tray.net.phase = now_is ∙ ap (λ (n : Net). n.phase) g.net in
     let is = still_outcome old.tray.net now (sym was) paused restarting in
     did_event old _ [] event.RestartNext any_choice _ k i (ends_still t k g)
-    (ap (λ p. reply.Refused (refusal.WrongPhase p)) was ∙ ap (λ (o : Outcome). o.reply) (sym is)) (ap (λ (o : Outcome). o.rows) (sym is)) refl
+    (ap (λ p. reply.Refused (refusal.WrongPhase p)) was ∙ ap (λ (o : Outcome). o.reply) (sym is)) (ap (λ (o : Outcome). o.rows) (sym is)) refl tt (refl, refl)
 
 -- room for a turn is left
 pub turns_left : (b t : TrayView) (begun : Bool) → 1 ≤ b.room.turns → t ≡ each_written b (next_rows b.net begun) → 1 ≤ t.room.turns

@@ -22,7 +22,8 @@ use Rattle.book_lemmas.proofs.Heads.{head_seen}
 use Rattle.book_parts.specs.Events.{IsBook, IsIdle, DidEvent, IsUnmoved, CanEnd}
 use Rattle.book_parts.proofs.Ended.{idle_state, turned, Ends, ends}
 use Rattle.pump_work.specs.Pumps.{HasListsOnly}
-use Rattle.stack_steps.specs.Steps.{IsHeld, IsWorked, Steps}
+use Rattle.stack_steps.specs.Steps.{IsHeld, IsWorked, MovesShelf, Steps}
+use Rattle.stack_steps.proofs.Shelved.{follows_shelf}
 
 -- the book with other payloads and other room in its tray
 abbrev pub with_tray : BookView → TrayView → BookView
@@ -101,20 +102,20 @@ told_seen {mid} {new} {r} flat k i d w = tells_seen k i d ∙ ap (λ e. told (se
 
 -- the turn of an event that was held is one of the book before
 added_with : {old new : BookView} {asked : Asked} {r : Reply} (t : TrayView) → AddsTurn (with_tray old t) new asked r → AddsTurn old new asked r
-added_with t a = record { rows = a.rows; next = a.next; turns = a.turns; head = a.head; idle = a.idle; untold = a.untold; did = a.did }
+added_with t a = record { rows = a.rows; next = a.next; turns = a.turns; head = a.head; idle = a.idle; untold = a.untold; did = a.did; refused = a.refused; shelved = a.shelved }
 
 pub added_held : {old : BookView} {t : TrayView} {new : BookView} {asked : Asked} {r : Reply} → IsOnly old t → AddsTurn (record { tray = t; held = old.held }) new asked r → AddsTurn old new asked r
 added_held {old} {t} {new} {asked} {r} e a = added_with t (subst (λ (x : TrayView). AddsTurn (record { tray = x; held = old.held }) new asked r) e a)
 
 -- a step
 pub steps_by : {old new : BookView} {t t' : TrayView} {e : Event} {r : Reply} (who : Who) (flat : FlatEvent) → IsOnly old t → IsBook old → IsIdle old → IsHeld (record { tray = t; held = old.held }) e flat
-    → DidEvent (record { tray = t; held = old.held }) new (event_of t.payloads flat) r → t' ≡ ended new.tray (turn_of new.tray who (event_of new.tray.payloads flat) r)
+    → DidEvent (record { tray = t; held = old.held }) new (event_of t.payloads flat) r → MovesShelf (record { tray = t; held = old.held }) new (event_of t.payloads flat) r → t' ≡ ended new.tray (turn_of new.tray who (event_of new.tray.payloads flat) r)
     → Steps old (record { tray = t'; held = new.held }) (record { who = who; event = e }) r
-steps_by {old} {new} {t} {t'} {e} {r} who flat is k i h d now =
+steps_by {old} {new} {t} {t'} {e} {r} who flat is k i h d m now =
     let mid : BookView = record { tray = t; held = old.held } in
     let k' : IsBook mid = held_book is k in
     let i' : IsIdle mid = held_idle is i in
-    let x : Ends mid (turned new who (event_of t.payloads flat) r) who (event_of t.payloads flat) r = ends mid new who (event_of t.payloads flat) r k' i' d h.may in
+    let x : Ends mid (turned new who (event_of t.payloads flat) r) who (event_of t.payloads flat) r = ends mid new who (event_of t.payloads flat) r k' i' d (follows_shelf mid new (event_of t.payloads flat) r h.worked d m) h.may in
     let step : Steps old (turned new who (event_of t.payloads flat) r) (record { who = who; event = event_of t.payloads flat }) r = record { book = x.book; idle = x.idle; adds = added_held is x.adds } in
     let named : Steps old (turned new who e r) (record { who = who; event = e }) r = subst (λ q. Steps old (turned new who q r) (record { who = who; event = q }) r) h.shown step in
     let same : t' ≡ ended new.tray (turn_of new.tray who e r) = now ∙ ap (λ q. ended new.tray (turn_of new.tray who q r)) (still_shown flat d h.within ∙ h.shown) in
@@ -122,8 +123,8 @@ steps_by {old} {new} {t} {t'} {e} {r} who flat is k i h d now =
 
 -- with the reply as the journal shows it then
 pub steps_shown : {old new : BookView} {t t' : TrayView} {e : Event} (who : Who) (flat : FlatEvent) (answer : FlatReply) → IsOnly old t → IsBook old → IsIdle old → IsHeld (record { tray = t; held = old.held }) e flat
-    → DidEvent (record { tray = t; held = old.held }) new (event_of t.payloads flat) (reply_of new.tray.payloads answer) → t' ≡ ended new.tray (turn_of new.tray who (event_of new.tray.payloads flat) (reply_of new.tray.payloads answer))
+    → DidEvent (record { tray = t; held = old.held }) new (event_of t.payloads flat) (reply_of new.tray.payloads answer) → MovesShelf (record { tray = t; held = old.held }) new (event_of t.payloads flat) (reply_of new.tray.payloads answer) → t' ≡ ended new.tray (turn_of new.tray who (event_of new.tray.payloads flat) (reply_of new.tray.payloads answer))
     → Steps old (record { tray = t'; held = new.held }) (record { who = who; event = e }) (reply_of t'.payloads answer)
-steps_shown {old} {new} {t} {t'} {e} who flat answer is k i h d now =
+steps_shown {old} {new} {t} {t'} {e} who flat answer is k i h d m now =
     let same : reply_of t'.payloads answer ≡ reply_of new.tray.payloads answer = ap (λ (q : TrayView). reply_of q.payloads answer) now in
-    subst (λ r. Steps old (record { tray = t'; held = new.held }) (record { who = who; event = e }) r) (sym same) (steps_by who flat is k i h d now)
+    subst (λ r. Steps old (record { tray = t'; held = new.held }) (record { who = who; event = e }) r) (sym same) (steps_by who flat is k i h d m now)

@@ -8,6 +8,7 @@ use Rattle.flat_journal.specs.declared.types.FlatEvent.{FlatEvent}
 use Rattle.flat_journal.specs.Shown.{event_of}
 use Rattle.flat_journal.specs.Within.{EventWithin}
 use Rattle.stack_rules.specs.Conditions.{may_ask}
+use Rattle.book_lemmas.specs.Shelves.{FollowsShelf}
 use Rattle.book_lemmas.specs.Turns.{AddsTurn}
 use Rattle.book_lemmas.specs.Views.{BookView}
 use Rattle.book_parts.specs.Events.{IsBook, IsIdle}
@@ -27,6 +28,14 @@ IsWorked event.PauseNext = Unit {0}
 IsWorked event.RestartNext = Unit {0}
 IsWorked event.Halt = Unit {0}
 IsWorked _ = ⊥
+
+-- where filters come and go, shelf and seats follow the journal
+abbrev pub MovesShelf : BookView → BookView → Event → Reply → Type 0
+MovesShelf old new (event.Insert kind position setup) answer = FollowsShelf old new (event.Insert kind position setup) answer
+MovesShelf old new (event.Remove filter) answer = FollowsShelf old new (event.Remove filter) answer
+MovesShelf old new (event.Replace filter kind setup) answer = FollowsShelf old new (event.Replace filter kind setup) answer
+MovesShelf old new event.Halt answer = FollowsShelf old new event.Halt answer
+MovesShelf old new _ answer = Unit {0}
 
 -- a turn was added that may come next, the drivers did what its rows say, and the book is between turns again
 pub record Steps (old new : BookView) (asked : Asked) (answer : Reply) : Type 0 where

@@ -11,7 +11,7 @@ ghost use Rattle.flat_journal.specs.Within.{EventWithin, ReplyWithin};
 ghost use Rattle.book_parts.specs.Parts.{view_of};
 ghost use Rattle.book_parts.specs.Events.{IsBook, IsIdle, DidEvent, IsUnmoved, CanEnd};
 ghost use Rattle.pump_work.specs.Pumps.{HasListsOnly};
-ghost use Rattle.stack_steps.specs.Steps.{IsHeld, IsWorked, Steps};
+ghost use Rattle.stack_steps.specs.Steps.{IsHeld, IsWorked, MovesShelf, Steps};
 
 use binding_work::send;
 use book_parts::BookParts;
@@ -127,6 +127,7 @@ fn work<M: MiniportCalls, P: ProtocolCalls, F: FilterCalls>(
     requires rings { is_virtual (view_of M.state P.state F.state book.old).tray.net.head.kind ≡ false }
     requires held { IsHeld (view_of M.state P.state F.state book.old) event.now held }
     ensures did { IfOk result (λ r. DidEvent (view_of M.state P.state F.state book.old) (view_of M.state P.state F.state book.new) (event_of (view_of M.state P.state F.state book.old).tray.payloads held) (reply_of (view_of M.state P.state F.state book.new).tray.payloads r)) }
+    ensures shelf { IfOk result (λ r. MovesShelf (view_of M.state P.state F.state book.old) (view_of M.state P.state F.state book.new) (event_of (view_of M.state P.state F.state book.old).tray.payloads held) (reply_of (view_of M.state P.state F.state book.new).tray.payloads r)) }
     ensures within { IfOk result (λ r. ReplyWithin (view_of M.state P.state F.state book.new).tray.payloads r) }
     ensures turn { OnOk result (CanEnd (view_of M.state P.state F.state book.new)) }
     ensures memory { OnErr result (IsUnmoved (view_of M.state P.state F.state book.old) (view_of M.state P.state F.state book.new)) }

@@ -16,4 +16,4 @@ pub returns-clause-steps : goal.returns-clause-steps
 returns-clause-steps g c =
     steps_shown _ _ _ c.hold_event.ensures.same c.requires.book c.requires.idle
     (held_event (view_of g.M.MiniportCalls.state g.P.ProtocolCalls.state g.F.FilterCalls.state c.args.book.now) c.hold_event.ensures.same c.in_ok-held.ensures.within c.in_ok-held.ensures.shown c.requires.may c.requires.worked)
-    c.in_ok-reply.ensures.did c.end_turn.ensures
+    c.in_ok-reply.ensures.did c.in_ok-reply.ensures.shelf c.end_turn.ensures
