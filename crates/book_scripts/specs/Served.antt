@@ -1,11 +1,16 @@
 -- What the drivers of a stack did in a run, in the words in which it is promised of journals.
-use Rattle.std.specs.Prelude.{◌≡◌, ℕ, ◌+◌, List, ◌++◌, slice_index_or}
+use Rattle.std.specs.Prelude.{◌≡◌, ◌⊎◌, ℕ, ◌+◌, List, ◌++◌, length, map, slice_index_or}
 use Rattle.ndis_base.specs.declared.ModuleId.{ModuleId}
 use Rattle.ndis_base.specs.declared.ModuleId.TheVariants.{Miniport, Binding}
+use Rattle.ndis_base.specs.declared.Phase.TheVariants as phase
+use Rattle.journal_types.specs.declared.StackHead.{StackHead}
 use Rattle.journal_types.specs.declared.Turn.{Turn}
+use Rattle.script_types.specs.declared.FilterSetup.{FilterSetup}
+use Rattle.stack_rules.specs.Net.{seen}
 use Rattle.promise_rules.specs.declared.Called.{Called}
 use Rattle.promise_rules.specs.Calls.{served, log_of}
-use Rattle.driver_views.specs.States.{Record, times}
+use Rattle.promise_rules.specs.Followed.{IsOpenedAndEnded}
+use Rattle.driver_views.specs.States.{IsRisen, MiniportState, ProtocolState, Record, times}
 use Rattle.book_lemmas.specs.Views.{HeldView, no_protocol}
 
 -- a driver's counts rose by the calls of the module that the journal counts, and its log by what the journal logs of it
@@ -14,6 +19,18 @@ pub record IsServedBy (turns : List Turn) (m : ModuleId) (old new : Record) : Ty
   pub log : new.log ≡ old.log ++ log_of turns m
 
 -- so did those of the miniport's driver, and of each binding's
-pub record DriversServed (turns : List Turn) (old new : HeldView) : Type 0 where
-  pub miniport : IsServedBy turns Miniport old.miniport.did new.miniport.did
-  pub protocols : (i : ℕ) → IsServedBy turns (Binding i) (slice_index_or old.protocols i no_protocol).did (slice_index_or new.protocols i no_protocol).did
+pub record AreServed (turns : List Turn) (miniport : MiniportState) (protocols : List ProtocolState) (miniport' : MiniportState) (protocols' : List ProtocolState) : Type 0 where
+  pub miniport_served : IsServedBy turns Miniport miniport.did miniport'.did
+  pub protocols_served : (i : ℕ) → IsServedBy turns (Binding i) (slice_index_or protocols i no_protocol).did (slice_index_or protocols' i no_protocol).did
+  pub as_many : length protocols' ≡ length protocols
+
+-- the stack runs from its opening until its calls are made, unless its adapter refused to be initialised, and counted that
+pub record RunsUnlessRefused (head : StackHead) (filters : List FilterSetup) (turns : List Turn) (miniport miniport' : MiniportState) : Type 0 where
+  pub ended : IsOpenedAndEnded head filters turns
+  pub running : ((seen head (ended.opening ++ ended.middle)).phase ≡ phase.Running) ⊎ IsRisen miniport.refusals miniport'.refusals
+
+-- the drivers of a stack served its journal, and the filters' drivers are of the kinds that they were
+pub record DriversServed (head : StackHead) (filters : List FilterSetup) (turns : List Turn) (old new : HeldView) : Type 0 where
+  pub are : AreServed turns old.miniport old.protocols new.miniport new.protocols
+  pub ran : RunsUnlessRefused head filters turns old.miniport new.miniport
+  pub kinds : map (λ s. s.kind) new.filters ≡ map (λ s. s.kind) old.filters

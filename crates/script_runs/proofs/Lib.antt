@@ -1,4 +1,0 @@
-pub mod Laws
-pub mod Followed
-pub mod Back
-pub mod Only

@@ -1,36 +1,42 @@
 -- Which of the drivers that are handed in a script's only stack takes, and how they come back.
-use Rattle.std.specs.Prelude.{◌≡◌, List, [], ◌∷◌, ◌++◌}
-use Rattle.driver_traits.specs.Miniport.{MiniportState}
-use Rattle.driver_traits.specs.Protocol.{ProtocolState}
-use Rattle.journal_types.specs.declared.Row.{Row}
+use Rattle.std.specs.Prelude.{◌≡◌, List, [], ◌∷◌, ◌++◌, map}
+use Rattle.driver_views.specs.States.{MiniportState, ProtocolState}
+use Rattle.journal_types.specs.declared.Turn.{Turn}
 use Rattle.script_types.specs.declared.StackSetup.{StackSetup}
-use Rattle.stack_book.specs.Parts.{PartsView}
-use Rattle.stack_book.specs.Chosen.{Takes, Lacks}
-use Rattle.stack_book.specs.Drivers.{MiniportDid, ProtocolsDid}
+use Rattle.driver_choice.specs.Parts.{PartsView}
+use Rattle.driver_choice.specs.Chosen.{Takes, Lacks}
+use Rattle.driver_choice.specs.Places.{StandAt}
+use Rattle.book_opening.specs.Opened.{HandedView, kind_of}
+use Rattle.book_scripts.specs.Served.{AreServed, RunsUnlessRefused}
 use Rattle.script_runs.specs.Built.{head_of}
 
 -- the drivers are too few for the only stack
-pub record LacksDrivers (stacks : List StackSetup) (parts : PartsView) : Type 0 where
+pub record LacksDrivers (stacks : List StackSetup) (handed : HandedView) : Type 0 where
   pub stack : StackSetup
   pub only : stacks ≡ stack ∷ []
-  pub lacks : Lacks (head_of stack) parts
+  pub lacks : Lacks (head_of stack) handed.drivers
 
--- the only stack takes a miniport and protocols, and the others are left
-pub record LeavesDrivers (stacks : List StackSetup) (parts others : PartsView) : Type 0 where
+-- the only stack takes a miniport and protocols, and all filters; the others are left
+pub record LeavesDrivers (stacks : List StackSetup) (handed : HandedView) (others : HandedView) : Type 0 where
   pub stack : StackSetup
   pub only : stacks ≡ stack ∷ []
   pub miniport : MiniportState
   pub protocols : List ProtocolState
-  pub takes : Takes (head_of stack) parts miniport protocols others
+  pub takes : Takes (head_of stack) handed.drivers miniport protocols others.drivers
+  pub no_shelf : others.shelf ≡ []
 
--- after a run with these rows the miniport stands before the others, and the protocols of the bindings, in the
--- order of the bindings, stand before the others; these drivers did what the rows say
-pub record ComeBack (stacks : List StackSetup) (rows : List Row) (parts parts' : PartsView) : Type 0 where
-  pub others : PartsView
-  pub left : LeavesDrivers stacks parts others
+-- After a run with this journal the miniport stands before the others, and the protocols of the bindings, in the
+-- order of the bindings, stand before the others; the filters stand where they stood. The drivers that were taken
+-- stood at the promised places, and counted and logged what the journal tells; and the stack ran, unless its adapter
+-- counted that it refused.
+pub record ComesBack (stacks : List StackSetup) (turns : List Turn) (handed handed' : HandedView) : Type 0 where
+  pub others : HandedView
+  pub left : LeavesDrivers stacks handed others
   pub miniport : MiniportState
   pub protocols : List ProtocolState
-  pub miniports_are : parts'.miniports ≡ miniport ∷ others.miniports
-  pub protocols_are : parts'.protocols ≡ protocols ++ others.protocols
-  pub miniport_did : MiniportDid left.miniport miniport rows
-  pub protocols_did : ProtocolsDid 0 left.protocols protocols rows
+  pub miniports_are : handed'.drivers.miniports ≡ miniport ∷ others.drivers.miniports
+  pub protocols_are : handed'.drivers.protocols ≡ protocols ++ others.drivers.protocols
+  pub stood : StandAt (head_of left.stack) handed.drivers left.miniport left.protocols
+  pub served : AreServed turns left.miniport left.protocols miniport protocols
+  pub ran : RunsUnlessRefused (head_of left.stack) left.stack.filters turns left.miniport miniport
+  pub filters : map kind_of handed'.shelf ≡ map kind_of handed.shelf
