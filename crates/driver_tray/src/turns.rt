@@ -37,8 +37,8 @@ impl Tray {
 
     /// Gives the journal away: the turns that the stack has had. What was on its way is gone.
     pub fn into_journal(self) -> FlatJournal
-        ensures head { result.head ≡ self.old.head }
-        ensures turns { result.turns ≡ self.old.turns }
+        ensures head { result.head ≡ self.head }
+        ensures turns { result.turns ≡ self.turns }
     {
         self.journal
     }
