@@ -19,7 +19,7 @@ use Rattle.stack_rules.specs.Requests.{next_giving}
 use Rattle.stack_rules.specs.Sends.{first_of}
 use Rattle.stack_rules.specs.Tests.{is_retain}
 use Rattle.hand_lemmas.proofs.Tells.{none_away}
-use Rattle.book_lemmas.specs.Views.{BookView, hands_of}
+use Rattle.book_lemmas.specs.Views.{BookView, HeldView, hands_of}
 use Rattle.work_laws.proofs.Halted.{HasNothing, nothing_while_halted}
 use Rattle.book_parts.specs.Events.{IsBook, IsIdle, DidEvent}
 use Rattle.book_parts.proofs.Ended.{idle_state}
@@ -83,4 +83,4 @@ halted_drained old new k i quiet requests halted s =
     ap (λ o. is_some o || is_some (next_giving net)) (none_away net (hands_of old.tray.queue old.held []) k.stands.agrees quiet) ∙ ap (λ o. is_some o) requests in
     let is : drain_outcome net false ≡ drained [] = cond-false (is_pump_moving net) (pump_outcome net false) (drained (drain_rows net)) still ∙ ap drained rows in
     let ends : Ends old new [] = subst (λ (v : BookView). Ends old v []) (book_is refl s.held) (ends_still new.tray k s.tray) in
-    did_event old new [] event.Drain no_choice reply.Idle k i ends (ap (λ (o : Outcome). o.reply) (sym is)) (ap (λ (o : Outcome). o.rows) (sym is)) refl tt (refl, refl)
+    did_event old new [] event.Drain no_choice reply.Idle k i ends (ap (λ (o : Outcome). o.reply) (sym is)) (ap (λ (o : Outcome). o.rows) (sym is)) refl tt (ap (λ (h : HeldView). h.shelf) s.held, ap (λ (h : HeldView). h.seats) s.held)

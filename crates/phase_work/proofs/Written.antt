@@ -17,6 +17,7 @@ use Rattle.book_lemmas.specs.Did.{calls_in, logs_in, IsServed, Did}
 use Rattle.book_lemmas.specs.Leaves.{ArePhases, Leaves}
 use Rattle.book_lemmas.specs.Stands.{Stands, AllSized, DriversFit}
 use Rattle.book_lemmas.specs.Turns.{HasUsed, row_frames, is_way}
+use Rattle.book_lemmas.proofs.Keeps.{keeps_none}
 use Rattle.book_lemmas.proofs.Goes.{used_none, used_then}
 use Rattle.book_lemmas.proofs.Phases.{phases_agree, stands_phases}
 use Rattle.book_parts.specs.Events.{IsBook}
@@ -162,7 +163,7 @@ ends_moved {old} {b} rows k g phases drivers =
     let s : Stands b.net b.queue old.held [] = begins_stands k g in
     let q = w.queue in
     ends_phases old.held rows (each_written b rows) k g w phases leaves_same
-    (record { miniport = refl; protocols = λ i. refl; filters = λ place. refl })
+    (record { miniport = refl; protocols = λ i. refl; filters = λ place. refl; keeps = keeps_none old.held })
     (subst (λ queue. Agrees (after_rows b.net rows) (hands_of queue old.held [])) (sym q) (phases_agree b.net rows (hands_of b.queue old.held []) phases s.agrees))
     (subst (λ queue. AllSized queue old.held []) (sym q) s.sized) s.ring
     (subst (λ (n : Net). DriversFit b.net.head.port old.held n.phase) (sym w.net) drivers)

@@ -134,7 +134,7 @@ pub ends_took : (old : BookView) (kind : FilterKind) (place : ℕ) (s : FilterSt
     → Refuses (filter_at old.held.filters (Some place)) s → Ends old (record { tray = old.tray; held = took_state old.held place s }) []
 ends_took old kind place s k i paused first r =
     let rests : IsResting s = record { setup = ap (λ (x : FilterState). x.setup) r.same ∙ first.rests.setup; kept = ap (λ (x : FilterState). x.kept) r.same ∙ first.rests.kept } in
-    let counts : CountsNothing old.held (took_state old.held place s) = 
+    let counts : CountsNothing old.held (took_state old.held place s) =
     counts_took old.held place s first.on.is.driver (ap (λ (x : FilterState). x.did) r.same) (ap (λ (x : FilterState). x.kind) r.same) (risen_most (filter_at old.held.filters (Some place)).refusals s.refusals r.rose) in
     record {
       head = refl;

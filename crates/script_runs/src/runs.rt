@@ -52,7 +52,12 @@ pub fn run_script<M: MiniportCalls, P: ProtocolCalls, F: FilterCalls>(
         Err((drivers, OpenFault::NoParts)) => return Err((drivers, RunFault::NoParts)),
         Err((drivers, OpenFault::Memory)) => return Err((drivers, RunFault::Memory)),
     };
-    match run_stack(&mut book, alloc, stack.filters.items(), script.calls.items()) {
+    match run_stack(
+        &mut book,
+        alloc,
+        stack.filters.items(),
+        script.calls.items(),
+    ) {
         Ok(()) => Ok(close(book, others)),
         Err(OutOfMemory) => {
             abandon(book);
