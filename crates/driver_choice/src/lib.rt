@@ -2,3 +2,4 @@
 #![tactic(auto)]
 
 pub mod choosing;
+pub mod places;
