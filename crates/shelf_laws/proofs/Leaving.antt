@@ -5,24 +5,20 @@ use Rattle.ndis_base.specs.declared.ModuleId.TheVariants.{Miniport, Filter, Bind
 use Rattle.ndis_base.specs.declared.ModuleState.{ModuleState}
 use Rattle.ndis_base.specs.declared.ModuleState.TheVariants as state
 use Rattle.ndis_base.specs.declared.Phase.TheVariants as phase
-use Rattle.ndis_base.specs.declared.FilterKind.{FilterKind}
-use Rattle.journal_types.specs.declared.Event.{Event}
 use Rattle.journal_types.specs.declared.Event.TheVariants as event
 use Rattle.journal_types.specs.declared.PhaseOf.TheVariants as of
-use Rattle.journal_types.specs.declared.Reply.{Reply}
 use Rattle.journal_types.specs.declared.Row.{Row}
 use Rattle.journal_types.specs.declared.Row.TheVariants as row
-use Rattle.stack_rules.specs.declared.Choice.{Choice}
 use Rattle.stack_rules.specs.Net.{Net, is_detached}
 use Rattle.stack_rules.specs.Outcome.{Outcome, config_no}
 use Rattle.stack_rules.specs.Pauses.{state_row, state_rows, initialize_outcome, begin_outcome, pause_outcome, restart_outcome, first_unpaused, running_floors, is_top, floors, binding_ids}
 use Rattle.stack_rules.specs.Places.{outstanding}
 use Rattle.stack_rules.specs.Sound.{outcome}
 use Rattle.stack_rules.specs.Tests.{phase_is_halted, phase_is_running, phase_is_pausing, phase_is_paused, phase_is_restarting}
-use Rattle.promise_rules.specs.Drivers.{Shelf, shelf_told, shelf_at, shelf_in_rows}
+use Rattle.promise_rules.specs.Drivers.{Shelf, shelf_at, shelf_in_rows}
 use Rattle.state_laws.proofs.Rows.{by_test, is_quiet, AreQuiet}
 use Rattle.state_laws.proofs.Quiet.{quiet_event}
-use Rattle.shelf_laws.specs.Shelves.{is_rewire, LeavesShelf, EachLeavesShelf}
+use Rattle.shelf_laws.specs.Shelves.{LeavesShelf, EachLeavesShelf}
 
 -- a quiet row
 row_leaves : (r : Row) → is_quiet r ≡ true → (shelf : Shelf) → shelf_at r shelf ≡ shelf

@@ -1,2 +1,4 @@
 pub mod Leaving
 pub mod Was
+pub mod Fresh
+pub mod Rested

@@ -1,6 +1,5 @@
 -- Rows attach no filter that wasn't attached.
-use Rattle.std.proofs.Common.{◌≡◌, ◌≢◌, ℕ, ◌==◌, not, Bool, true, false, cond, List, [], ◌∷◌, Option, Some, None, map, filter, find, refl, ap, sym, ◌∙◌, subst}
-use Rattle.ndis_base.specs.declared.ModuleId.{ModuleId}
+use Rattle.std.proofs.Common.{◌≡◌, ℕ, ◌==◌, not, Bool, true, false, cond, List, [], ◌∷◌, Some, map, filter, refl, ap, sym, ◌∙◌, subst}
 use Rattle.ndis_base.specs.declared.ModuleId.TheVariants.{Miniport, Filter, Binding}
 use Rattle.ndis_base.specs.declared.ModuleState.{ModuleState}
 use Rattle.journal_types.specs.declared.Event.{Event}
@@ -12,24 +11,24 @@ use Rattle.journal_types.specs.declared.Row.{Row}
 use Rattle.journal_types.specs.declared.Row.TheVariants as row
 use Rattle.stack_rules.specs.declared.Attached.{Attached}
 use Rattle.stack_rules.specs.Net.{Net, after, after_rows, told, attached, with_state, is_detached, filters_after}
-use Rattle.shelf_laws.specs.Shelves.{is_rewire, IsAttached, EachWasAttached}
+use Rattle.shelf_laws.specs.Shelves.{is_rewire, EachWasAttached}
 
 -- a filter of this number is among these
-record IsAmong (f : ℕ) (entries : List Attached) : Type 0 where
-  entry : Attached
-  there : attached f entries ≡ Some entry
+pub record IsAmong (f : ℕ) (entries : List Attached) : Type 0 where
+  pub entry : Attached
+  pub there : attached f entries ≡ Some entry
 
-among_later : (f : ℕ) (x : Attached) (entries : List Attached) → IsAmong f entries → IsAmong f (x ∷ entries)
+pub among_later : (f : ℕ) (x : Attached) (entries : List Attached) → IsAmong f entries → IsAmong f (x ∷ entries)
 among_later f x entries a = by_number (x.filter == f) refl
   where
     by_number : (b : Bool) → (x.filter == f) ≡ b → IsAmong f (x ∷ entries)
     by_number true e = record { entry = x; there = ap (λ b. cond b (Some x) (attached f entries)) e }
     by_number false e = record { entry = a.entry; there = ap (λ b. cond b (Some x) (attached f entries)) e ∙ a.there }
 
-among_here : (f : ℕ) (x : Attached) (entries : List Attached) → (x.filter == f) ≡ true → IsAmong f (x ∷ entries)
+pub among_here : (f : ℕ) (x : Attached) (entries : List Attached) → (x.filter == f) ≡ true → IsAmong f (x ∷ entries)
 among_here f x entries e = record { entry = x; there = ap (λ b. cond b (Some x) (attached f entries)) e }
 
-same_number : (g : ℕ) (s : ModuleState) (x : Attached) → (with_state g s x).filter ≡ x.filter
+pub same_number : (g : ℕ) (s : ModuleState) (x : Attached) → (with_state g s x).filter ≡ x.filter
 same_number g s x = by_number (x.filter == g)
   where
     by_number : (b : Bool) → (cond b (record x { state = s }) x).filter ≡ x.filter
@@ -48,7 +47,7 @@ among_state g s f (x ∷ entries) a = by_number (among_state g s f entries) (x.f
     by_number rest false e = among_later f x entries (rest
         (record { entry = a.entry; there = sym (ap (λ b. cond b (Some (with_state g s x)) (attached f (map (with_state g s) entries))) (here ∙ e)) ∙ a.there }))
 
-abbrev less : ℕ → List Attached → List Attached
+abbrev pub less : ℕ → List Attached → List Attached
 less g entries = filter (λ a. not (a.filter == g)) entries
 
 among_fewer : (g f : ℕ) (entries : List Attached) → IsAmong f (filter (λ a. not (a.filter == g)) entries) → IsAmong f entries
