@@ -19,8 +19,8 @@ abbrev Asks : Option Refusal → Type 0
 Asks o = o ≡ Some refusal.AttachRefused
 
 or_asks : (a b : Option Refusal) → (Asks a → ⊥) → (Asks b → ⊥) → Asks (or_cause a b) → ⊥
-or_asks None b no never e = never e
-or_asks (Some cause) b no never e = no e
+or_asks None b other never e = never e
+or_asks (Some cause) b other never e = other e
 
 quiet_by : (paused none : Bool) (n : ℕ) → Asks (cond paused (cond none None (Some (refusal.Busy n))) (Some refusal.NotPaused)) → ⊥
 quiet_by true true n e = absurd cc
@@ -46,41 +46,41 @@ insert_asks net position e =
 pub rewire_asks : (net : Net) (f : ℕ) → rewire_refusal net f ≡ Some refusal.AttachRefused → ⊥
 rewire_asks net f e = or_asks (quiet_refusal net) (module_refusal net f) (quiet_asks net) (module_by (is_in f net.modules.order)) e
 
--- so no driver is asked to have counted it
+-- so other driver is asked to have counted it
 pub not_inserted : (kind : FilterKind) (position : ℕ) (setup : Setup) (cause : Refusal) (old new : HeldView) → (cause ≡ refusal.AttachRefused → ⊥) → Balks (event.Insert kind position setup) (reply.Refused cause) old new
-not_inserted kind position setup (refusal.WrongPhase p) old new no = tt
-not_inserted kind position setup refusal.InitRefused old new no = tt
-not_inserted kind position setup refusal.NotPaused old new no = tt
-not_inserted kind position setup (refusal.Busy n) old new no = tt
-not_inserted kind position setup refusal.Full old new no = tt
-not_inserted kind position setup refusal.BadPosition old new no = tt
-not_inserted kind position setup refusal.ShelfEmpty old new no = tt
-not_inserted kind position setup refusal.AttachRefused old new no = absurd (no refl)
-not_inserted kind position setup refusal.NoModule old new no = tt
-not_inserted kind position setup (refusal.Paused p) old new no = tt
-not_inserted kind position setup refusal.NoList old new no = tt
-not_inserted kind position setup refusal.NotRunning old new no = tt
-not_inserted kind position setup refusal.NotHeld old new no = tt
-not_inserted kind position setup refusal.Unbound old new no = tt
-not_inserted kind position setup refusal.HaltedNow old new no = tt
-not_inserted kind position setup refusal.TooLong old new no = tt
-not_inserted kind position setup refusal.NotTaken old new no = tt
+not_inserted kind position setup (refusal.WrongPhase p) old new other = tt
+not_inserted kind position setup refusal.InitRefused old new other = tt
+not_inserted kind position setup refusal.NotPaused old new other = tt
+not_inserted kind position setup (refusal.Busy n) old new other = tt
+not_inserted kind position setup refusal.Full old new other = tt
+not_inserted kind position setup refusal.BadPosition old new other = tt
+not_inserted kind position setup refusal.ShelfEmpty old new other = tt
+not_inserted kind position setup refusal.AttachRefused old new other = absurd (other refl)
+not_inserted kind position setup refusal.NoModule old new other = tt
+not_inserted kind position setup (refusal.Paused p) old new other = tt
+not_inserted kind position setup refusal.NoList old new other = tt
+not_inserted kind position setup refusal.NotRunning old new other = tt
+not_inserted kind position setup refusal.NotHeld old new other = tt
+not_inserted kind position setup refusal.Unbound old new other = tt
+not_inserted kind position setup refusal.HaltedNow old new other = tt
+not_inserted kind position setup refusal.TooLong old new other = tt
+not_inserted kind position setup refusal.NotTaken old new other = tt
 
 pub not_exchanged : (f : ℕ) (kind : FilterKind) (setup : Setup) (cause : Refusal) (old new : HeldView) → (cause ≡ refusal.AttachRefused → ⊥) → Balks (event.Replace f kind setup) (reply.Refused cause) old new
-not_exchanged f kind setup (refusal.WrongPhase p) old new no = tt
-not_exchanged f kind setup refusal.InitRefused old new no = tt
-not_exchanged f kind setup refusal.NotPaused old new no = tt
-not_exchanged f kind setup (refusal.Busy n) old new no = tt
-not_exchanged f kind setup refusal.Full old new no = tt
-not_exchanged f kind setup refusal.BadPosition old new no = tt
-not_exchanged f kind setup refusal.ShelfEmpty old new no = tt
-not_exchanged f kind setup refusal.AttachRefused old new no = absurd (no refl)
-not_exchanged f kind setup refusal.NoModule old new no = tt
-not_exchanged f kind setup (refusal.Paused p) old new no = tt
-not_exchanged f kind setup refusal.NoList old new no = tt
-not_exchanged f kind setup refusal.NotRunning old new no = tt
-not_exchanged f kind setup refusal.NotHeld old new no = tt
-not_exchanged f kind setup refusal.Unbound old new no = tt
-not_exchanged f kind setup refusal.HaltedNow old new no = tt
-not_exchanged f kind setup refusal.TooLong old new no = tt
-not_exchanged f kind setup refusal.NotTaken old new no = tt
+not_exchanged f kind setup (refusal.WrongPhase p) old new other = tt
+not_exchanged f kind setup refusal.InitRefused old new other = tt
+not_exchanged f kind setup refusal.NotPaused old new other = tt
+not_exchanged f kind setup (refusal.Busy n) old new other = tt
+not_exchanged f kind setup refusal.Full old new other = tt
+not_exchanged f kind setup refusal.BadPosition old new other = tt
+not_exchanged f kind setup refusal.ShelfEmpty old new other = tt
+not_exchanged f kind setup refusal.AttachRefused old new other = absurd (other refl)
+not_exchanged f kind setup refusal.NoModule old new other = tt
+not_exchanged f kind setup (refusal.Paused p) old new other = tt
+not_exchanged f kind setup refusal.NoList old new other = tt
+not_exchanged f kind setup refusal.NotRunning old new other = tt
+not_exchanged f kind setup refusal.NotHeld old new other = tt
+not_exchanged f kind setup refusal.Unbound old new other = tt
+not_exchanged f kind setup refusal.HaltedNow old new other = tt
+not_exchanged f kind setup refusal.TooLong old new other = tt
+not_exchanged f kind setup refusal.NotTaken old new other = tt

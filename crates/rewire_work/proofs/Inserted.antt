@@ -32,7 +32,7 @@ use Rattle.book_lemmas.specs.Did.{Did, logs_in}
 use Rattle.book_lemmas.specs.Follows.{Follows}
 use Rattle.book_lemmas.specs.Stands.{IsResting, IsShelved}
 use Rattle.book_lemmas.specs.Turns.{HasUsed}
-use Rattle.book_lemmas.specs.Views.{BookView, HeldView, filter_at, seat_of, IsOnShelf}
+use Rattle.book_lemmas.specs.Views.{BookView, HeldView, no_filter, filter_at, seat_of, IsOnShelf}
 use Rattle.book_lemmas.proofs.Goes.{used_none}
 use Rattle.book_parts.specs.Events.{IsBook, IsIdle, DidEvent, begun_with}
 use Rattle.book_parts.proofs.Ended.{idle_state}
