@@ -20,6 +20,8 @@ use Rattle.stack_rules.specs.Net.{Net, seen}
 use Rattle.run_laws.specs.Opening.{restart_to_go, is_rewire, Initializes, Restarts}
 use Rattle.run_laws.specs.Turns.{ChangesNothing, GoesOn, LeadsTo}
 use Rattle.run_laws.proofs.Opening.{initializes, restarts, rewires}
+use Rattle.driver_views.specs.States.{IsRisen}
+use Rattle.book_lemmas.specs.Shelves.{Balks}
 use Rattle.book_lemmas.specs.Views.{BookView}
 use Rattle.book_runs.specs.Adds.{AddsTurns, OpensTo, IsOne, is_refused}
 use Rattle.book_runs.specs.Runs.{IsBetween, IsInPhase, IsRestarting, IsAnswer, Turned, RestartsOnce, RestartsAll, InsertsOne, InsertsEach, OpensStack, restart_leads, is_inserted}
@@ -130,6 +132,11 @@ inserts_none {old} attached [] none at = record { now = at; most = omega arith; 
 ok_not_refused : is_refused reply.Ok ≡ true → ⊥
 ok_not_refused e = cc
 
+-- the miniport counted that
+counted_refusal : {old new : BookView} {r : Reply} → (t : Turned old new who.Own event.Initialize r) → t.turn.reply ≡ reply.Refused refusal.InitRefused → IsRisen old.held.miniport.refusals new.held.miniport.refusals
+counted_refusal {old} {new} t is =
+    subst (λ e. Balks e (reply.Refused refusal.InitRefused) old.held new.held) t.told.what (subst (λ q. Balks t.turn.event q old.held new.held) is t.adds.adds.refused)
+
 pub refused_opens : {old new : BookView} (filters : List FilterSetup) (r : Reply) → IsInPhase old phase.Halted → Turned old new who.Own event.Initialize r → is_refused r ≡ true → OpensStack filters old new
 refused_opens {old} {new} filters r at t refused = by_law (initializes old.tray.head old.tray.turns t.turn t.sound t.bound t.next t.told.what (sym (ap (λ (n : Net). n.phase) t.before) ∙ at.phase_is))
   where
@@ -139,7 +146,7 @@ refused_opens {old} {new} filters r at t refused = by_law (initializes old.tray.
         let told : r ≡ reply.Refused refusal.InitRefused = sym t.told.told ∙ c.reply in
         record {
           between = t.between;
-          phase_is = inr (ap (λ (n : Net). n.phase) (same_after t c.same) ∙ at.phase_is);
+          ran = inr (ap (λ (n : Net). n.phase) (same_after t c.same) ∙ at.phase_is, counted_refusal t c.reply);
           left = filters;
           added = subst (λ q. AddsTurns (OpensTo Initialising filters (opening_after Initialising filters q) filters) old new) told (opens_by Initialising filters event.Initialize r refl (one_of t));
         }
@@ -168,7 +175,7 @@ initialized_by {old} {new} filters r at t accepted = by_law (initializes old.tra
 pub opens_in_all : {a b c d : BookView} (filters : List FilterSetup) (attached : ℕ) → IsInitialized filters a b → InsertsEach 0 filters attached b c → RestartsAll attached c d → OpensStack filters a d
 opens_in_all filters attached i j r = record {
   between = r.now.between;
-  phase_is = inl r.now.phase_is;
+  ran = inl r.now.phase_is;
   left = [];
   added = opens_then Initialising filters (Inserting 0) filters Opened [] i.added (opens_then (Inserting 0) filters (Inserting attached) [] Opened [] j.added r.added);
 }

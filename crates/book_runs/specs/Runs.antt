@@ -26,6 +26,7 @@ use Rattle.unasked_laws.specs.Unasked.{AreUnasked}
 use Rattle.work_laws.specs.Bounds.{is_take}
 use Rattle.run_laws.specs.Opening.{restart_to_go}
 use Rattle.run_laws.specs.Pausing.{pause_to_go}
+use Rattle.driver_views.specs.States.{IsRisen}
 use Rattle.book_lemmas.specs.Views.{BookView}
 use Rattle.book_parts.specs.Events.{IsBook, IsIdle}
 use Rattle.book_runs.specs.Adds.{AddsThis, AddsTurns, Told, IsOne, ArePumps, IsCall, OpensTo, EndsTo, pump_reply, pause_leads}
@@ -124,10 +125,10 @@ pub record InsertsEach (before : ℕ) (filters : List FilterSetup) (attached : �
   pub most : attached ≤ before + length filters
   pub added : AddsTurns (OpensTo (Inserting before) filters (Inserting attached) []) old new
 
--- a stack was opened: it runs, or its adapter refused and it is Halted
+-- a stack was opened: it runs, or it is Halted since its adapter refused, and counted that
 pub record OpensStack (filters : List FilterSetup) (old new : BookView) : Type 0 where
   pub between : IsBetween new
-  pub phase_is : (new.tray.net.phase ≡ phase.Running) ⊎ (new.tray.net.phase ≡ phase.Halted)
+  pub ran : (new.tray.net.phase ≡ phase.Running) ⊎ ((new.tray.net.phase ≡ phase.Halted) × IsRisen old.held.miniport.refusals new.held.miniport.refusals)
   pub left : List FilterSetup
   pub added : AddsTurns (OpensTo Initialising filters Opened left) old new
 
