@@ -105,7 +105,7 @@ fn insert_each<M: MiniportCalls, P: ProtocolCalls, F: FilterCalls>(
 }
 
 /// Opens a Halted stack: it is initialised, these filters are inserted from top to bottom, and it is restarted until it
-/// runs. Where its adapter refuses to be initialised it stays Halted.
+/// runs. Where its adapter refuses to be initialised, it stays Halted, and the adapter counts that.
 pub fn open_stack<M: MiniportCalls, P: ProtocolCalls, F: FilterCalls>(
     book: &mut BookParts<M, P, F>,
     alloc: Global,

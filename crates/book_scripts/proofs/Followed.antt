@@ -5,6 +5,7 @@ use Rattle.std.proofs.lemmas.List.{append_assoc}
 use Rattle.std.proofs.lemmas.List.Elements.{All-append, All-cons, All-nil}
 use Rattle.std.proofs.lemmas.Bool.Decides.{nat_tests}
 use Rattle.ndis_base.specs.declared.LaneNo.{LaneNo}
+use Rattle.ndis_base.specs.declared.Phase.TheVariants as phase
 use Rattle.ndis_base.specs.declared.Who.TheVariants as who
 use Rattle.journal_types.specs.declared.Event.{Event}
 use Rattle.journal_types.specs.declared.Event.TheVariants as event
@@ -30,9 +31,11 @@ use Rattle.promise_rules.specs.Tails.{next_stack, next_event, tail_after, tail_o
 use Rattle.promise_rules.specs.Own.{opening_after, filters_after, ending_of, ending_after}
 use Rattle.promise_rules.specs.Followed.{is_of_lane, next_turn, after_next, link_of, Follows, done, other, called, helped, IsFollowed, IsOpenedAndEnded}
 use Rattle.promise_rules.specs.Followed as promised
+use Rattle.driver_views.specs.States.{IsRisen}
 use Rattle.book_lemmas.specs.Views.{BookView}
 use Rattle.book_runs.specs.Adds.{Told, AreMoves, ArePumps, IsTail, IsCall, OpensTo, EndsTo, is_refused}
 use Rattle.book_scripts.specs.Scripts.{Makes, MakesAll, IsWhole, RunsWhole, is_asked_call, is_asked_event}
+use Rattle.book_scripts.specs.Served.{RunsUnlessRefused}
 use Rattle.book_scripts.proofs.Whole.{both_true}
 
 differ : {A : Type 0} → false ≡ true → A
@@ -277,4 +280,14 @@ opened_and_ended filters calls a b none w =
       opens = opens_as Initialising filters k.left k.opening k.opens;
       calls = calls_own calls k.middle k.made;
       ends = subst (λ ts. promised.Ends (ending_of (seen a.tray.head (ts ++ (k.opening ++ k.middle))).phase) k.last) none (ends_as (ending_of (seen a.tray.head (a.tray.turns ++ (k.opening ++ k.middle))).phase) k.last k.ends);
+    }
+
+-- the stack runs, unless its adapter refused
+pub runs_unless_refused : (filters : List FilterSetup) (calls : List Call) (a b : BookView) → a.tray.turns ≡ [] → RunsWhole filters calls a b → RunsUnlessRefused a.tray.head filters b.tray.turns a.held.miniport b.held.miniport
+unfolding opened_and_ended
+runs_unless_refused filters calls a b none w =
+    let k : IsWhole a.tray.head a.tray.turns filters calls w.added.more = w.added.kind in
+    record {
+      ended = opened_and_ended filters calls a b none w;
+      running = subst (λ ts. ((seen a.tray.head (ts ++ (k.opening ++ k.middle))).phase ≡ phase.Running) ⊎ IsRisen a.held.miniport.refusals b.held.miniport.refusals) none w.ran;
     }

@@ -1,5 +1,5 @@
 -- The drivers of a run count and log what its journal tells.
-use Rattle.std.proofs.Common.{◌≡◌, ℕ, ◌+◌, List, [], ◌∷◌, ◌++◌, count_by, flat_map, slice_index_or, refl, sym, ap, ◌∙◌, subst, arith, append_assoc, append-nil}
+use Rattle.std.proofs.Common.{◌≡◌, ℕ, ◌+◌, List, [], ◌∷◌, ◌++◌, count_by, flat_map, length, slice_index_or, refl, sym, ap, ◌∙◌, subst, arith, append_assoc, append-nil}
 use Rattle.ndis_base.specs.declared.ModuleId.{ModuleId}
 use Rattle.ndis_base.specs.declared.ModuleId.TheVariants.{Miniport, Binding}
 use Rattle.journal_types.specs.declared.Row.{Row}
@@ -16,12 +16,16 @@ use Rattle.promise_rules.specs.Calls.{is_call_of, logged_at}
 use Rattle.driver_views.specs.States.{Record, times}
 use Rattle.book_lemmas.specs.Did.{Did, IsServed, calls_in, calls_of, logs_in}
 use Rattle.book_lemmas.specs.Views.{BookView, HeldView, no_protocol}
+use Rattle.book_lemmas.proofs.Heads.{head_seen}
+use Rattle.book_parts.proofs.Ended.{idle_state}
 use Rattle.served_laws.proofs.Served.{each_is_served, each_is_logged}
 use Rattle.book_runs.specs.Adds.{Adds}
+use Rattle.book_runs.specs.Runs.{IsBetween}
 use Rattle.book_scripts.specs.Scripts.{RunsWhole}
-use Rattle.book_scripts.specs.Served.{DriversServed, IsServedBy}
+use Rattle.book_scripts.specs.Served.{AreServed, DriversServed, IsServedBy}
+use Rattle.book_scripts.proofs.Followed.{runs_unless_refused}
 use Rattle.book_scripts.proofs.Laws.{run_is_sound}
-use Rattle.book_scripts.proofs.Whole.{added_turns}
+use Rattle.book_scripts.proofs.Whole.{added_turns, keeps_all}
 
 flat_more : {X Y : Type 0} (f : X → List Y) (xs ys : List X) → flat_map f (xs ++ ys) ≡ flat_map f xs ++ flat_map f ys
 flat_more f [] ys = refl
@@ -79,17 +83,32 @@ served_as head turns m old new s c = record {
   log = c.log ∙ ap (λ l. old.log ++ l) (sym (each_is_logged turns m));
 }
 
-pub run_served : (filters : List FilterSetup) (calls : List Call) (a b : BookView) → a.tray.turns ≡ [] → RunsWhole filters calls a b → DriversServed b.tray.turns a.held b.held
-run_served filters calls a b none w =
+-- as many protocols stand as the head has bindings
+as_many_as_bindings : (v : BookView) → IsBetween v → length v.held.protocols ≡ length v.tray.head.bindings
+as_many_as_bindings v k =
+    k.book.stands.protocols
+    ∙ ap (λ (n : Net). length n.head.bindings) (idle_state v k.book k.idle)
+    ∙ ap (λ (h : StackHead). length h.bindings) (head_seen v.tray.head v.tray.turns)
+
+all_served : (filters : List FilterSetup) (calls : List Call) (a b : BookView) → a.tray.turns ≡ [] → IsBetween a → RunsWhole filters calls a b → AreServed b.tray.turns a.held.miniport a.held.protocols b.held.miniport b.held.protocols
+all_served filters calls a b none k w =
     let are : b.tray.turns ≡ w.added.more = w.turns ∙ ap (λ ts. ts ++ w.added.more) none in
     let sound : Sound a.tray.head w.added.more = subst (Sound a.tray.head) are (run_is_sound filters calls a b w) in
     let begun : seen a.tray.head a.tray.turns ≡ start a.tray.head = ap (seen a.tray.head) none in
-    let all : DriversServed w.added.more a.held b.held = record {
-      miniport = served_as a.tray.head w.added.more Miniport a.held.miniport.did b.held.miniport.did sound
+    let all : AreServed w.added.more a.held.miniport a.held.protocols b.held.miniport b.held.protocols = record {
+      miniport_served = served_as a.tray.head w.added.more Miniport a.held.miniport.did b.held.miniport.did sound
           (subst (λ (n : Net). IsCounted Miniport n w.added.more a.held.miniport.did b.held.miniport.did) begun
           (counted_by Miniport (λ (h : HeldView). h.miniport.did) (λ seats o n net rows d. d.miniport) a b w.added.more w.added.adds));
-      protocols = λ i. served_as a.tray.head w.added.more (Binding i) (slice_index_or a.held.protocols i no_protocol).did (slice_index_or b.held.protocols i no_protocol).did sound
+      protocols_served = λ i. served_as a.tray.head w.added.more (Binding i) (slice_index_or a.held.protocols i no_protocol).did (slice_index_or b.held.protocols i no_protocol).did sound
           (subst (λ (n : Net). IsCounted (Binding i) n w.added.more (slice_index_or a.held.protocols i no_protocol).did (slice_index_or b.held.protocols i no_protocol).did) begun
           (counted_by (Binding i) (λ (h : HeldView). (slice_index_or h.protocols i no_protocol).did) (λ seats o n net rows d. d.protocols i) a b w.added.more w.added.adds));
+      as_many = as_many_as_bindings b w.now.between ∙ ap (λ (h : StackHead). length h.bindings) w.head_is ∙ sym (as_many_as_bindings a k);
     } in
-    subst (λ ts. DriversServed ts a.held b.held) (sym are) all
+    subst (λ ts. AreServed ts a.held.miniport a.held.protocols b.held.miniport b.held.protocols) (sym are) all
+
+pub run_served : (filters : List FilterSetup) (calls : List Call) (a b : BookView) → a.tray.turns ≡ [] → IsBetween a → RunsWhole filters calls a b → DriversServed a.tray.head filters b.tray.turns a.held b.held
+run_served filters calls a b none k w = record {
+  are = all_served filters calls a b none k w;
+  ran = runs_unless_refused filters calls a b none w;
+  kinds = (keeps_all a b w.added.more w.added.adds).kinds;
+}

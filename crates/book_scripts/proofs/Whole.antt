@@ -1,7 +1,9 @@
 -- A run, call by call.
-use Rattle.std.proofs.Common.{◌≡◌, ◌≤◌, ◌<◌, ◌-◌, ◌&&◌, Bool, true, false, List, [], ◌∷◌, ◌++◌, Some, length, take, drop, get_or, refl, sym, ap, ap₂, subst, ◌∙◌, arith}
+use Rattle.std.proofs.Common.{◌≡◌, ◌⊎◌, inl, inr, ℕ, ◌≤◌, ◌<◌, ◌-◌, ◌&&◌, Bool, true, false, List, [], ◌∷◌, ◌++◌, Some, length, take, drop, get_or, refl, sym, ap, ap₂, subst, ◌∙◌, arith}
 use Rattle.std.specs.List.{list_all}
+use Rattle.std.proofs.lemmas.Bool.{cases_lt}
 use Rattle.std.proofs.lemmas.List.{append-nil, append_assoc, take_rest}
+use Rattle.ndis_base.specs.declared.Phase.TheVariants as phase
 use Rattle.journal_types.specs.declared.Event.{Event}
 use Rattle.journal_types.specs.declared.StackHead.{StackHead}
 use Rattle.journal_types.specs.declared.Turn.{Turn}
@@ -11,8 +13,12 @@ use Rattle.script_events.specs.Events.{event_of}
 use Rattle.stack_rules.specs.Net.{Net, seen}
 use Rattle.promise_rules.specs.declared.Ending.TheVariants as ending
 use Rattle.promise_rules.specs.Own.{ending_of}
+use Rattle.driver_views.specs.States.{IsRisen}
+use Rattle.book_lemmas.specs.Did.{KeepsCounts}
+use Rattle.book_lemmas.specs.Stands.{IsShelved}
 use Rattle.book_lemmas.specs.Turns.{asked_turn}
 use Rattle.book_lemmas.specs.Views.{BookView}
+use Rattle.book_lemmas.proofs.Keeps.{keeps_none, keeps_then}
 use Rattle.book_parts.proofs.Ended.{idle_state}
 use Rattle.book_runs.specs.Adds.{Adds, AddsThis, IsCall, EndsTo, asked_of}
 use Rattle.book_runs.specs.Runs.{IsBetween, MakesCall, OpensStack, EndsStack}
@@ -42,6 +48,28 @@ added_turns old new (t ∷ ts) p =
 pub added_head : (old new : BookView) (ts : List Turn) → Adds old new ts → new.tray.head ≡ old.tray.head
 added_head old new [] p = ap (λ (v : BookView). v.tray.head) (sym p)
 added_head old new (t ∷ ts) p = added_head p.0 new ts p.2 ∙ p.1.adds.head
+
+-- no count of refusals fell, and the filters' drivers are of the kinds that they were
+pub keeps_all : (old new : BookView) (ts : List Turn) → Adds old new ts → KeepsCounts old.held new.held
+keeps_all old new [] p = subst (λ (v : BookView). KeepsCounts old.held v.held) p (keeps_none old.held)
+keeps_all old new (t ∷ ts) p = keeps_then old.held p.0.held new.held p.1.adds.did.keeps (keeps_all p.0 new ts p.2)
+
+-- shelf and seats follow the journal
+shelved_all : (old new : BookView) (ts : List Turn) → Adds old new ts → IsShelved old.tray.net old.tray.turns old.held → IsShelved new.tray.net new.tray.turns new.held
+shelved_all old new [] p was = subst (λ (v : BookView). IsShelved v.tray.net v.tray.turns v.held) p was
+shelved_all old new (t ∷ ts) p was = shelved_all p.0 new ts p.2 (p.1.adds.shelved was)
+
+pub run_shelved : (filters : List FilterSetup) (calls : List Call) (a b : BookView) → RunsWhole filters calls a b → IsShelved a.tray.net a.tray.turns a.held → IsShelved b.tray.net b.tray.turns b.held
+run_shelved filters calls a b w = shelved_all a b w.added.more w.added.adds
+
+-- a count that rose and didn't fall then has risen
+stays_risen : (n m k : ℕ) → IsRisen n m → m ≤ k → IsRisen n k
+stays_risen n m k (inl rose) most = inl (omega (arith, rose, most))
+stays_risen n m k (inr last) most = by_case (cases_lt n k)
+  where
+    by_case : (n < k) ⊎ (k ≤ n) → IsRisen n k
+    by_case (inl more) = inl more
+    by_case (inr less) = inr (last.0, omega (arith, last.1, most, less))
 
 -- a call was made
 pub makes : (c : Call) (e : Event) (x y : BookView) → Some e ≡ event_of c.kind → MakesCall c.lane e c.pump x y → MakesOne c x y
@@ -86,6 +114,7 @@ runs_whole filters calls a b c d o m e =
     idle_state c m.between.book m.between.idle
     ∙ ap (λ (h : StackHead). seen h c.tray.turns) (added_head a c (o.added.more ++ m.added.more) front)
     ∙ ap (seen a.tray.head) (added_turns a c (o.added.more ++ m.added.more) front) in
+    let kept : KeepsCounts b.held d.held = keeps_then b.held c.held d.held (keeps_all b c m.added.more m.added.adds) (keeps_all c d e.added.more e.added.adds) in
     let ends : EndsTo (ending_of (seen a.tray.head (a.tray.turns ++ (o.added.more ++ m.added.more))).phase) ending.Ended e.added.more =
     subst (λ (n : Net). EndsTo (ending_of n.phase) ending.Ended e.added.more) at e.added.kind in
     record {
@@ -106,4 +135,19 @@ runs_whole filters calls a b c d o m e =
         };
       };
       turns = added_turns a d ((o.added.more ++ m.added.more) ++ e.added.more) all;
+      ran = still_ran at kept o.ran;
     }
+  where
+    still_ran : c.tray.net ≡ seen a.tray.head (a.tray.turns ++ (o.added.more ++ m.added.more)) → KeepsCounts b.held d.held
+        → (b.tray.net.phase ≡ phase.Running) ⊎ ((b.tray.net.phase ≡ phase.Halted) × IsRisen a.held.miniport.refusals b.held.miniport.refusals)
+        → ((seen a.tray.head (a.tray.turns ++ (o.added.more ++ m.added.more))).phase ≡ phase.Running) ⊎ IsRisen a.held.miniport.refusals d.held.miniport.refusals
+    still_ran at kept (inl runs) = inl (ap (λ (n : Net). n.phase) (sym at) ∙ m.phase_is ∙ runs)
+    still_ran at kept (inr refused) = inr (stays_risen a.held.miniport.refusals b.held.miniport.refusals d.held.miniport.refusals refused.1 kept.miniport)
+
+-- a stack that was opened runs, or is Halted, and so it is while its calls are made
+pub runs_or_halted : (filters : List FilterSetup) (calls : List Call) (a b c : BookView) → OpensStack filters a b → MakesEach calls b c → (c.tray.net.phase ≡ phase.Running) ⊎ (c.tray.net.phase ≡ phase.Halted)
+runs_or_halted filters calls a b c o m = by_case o.ran
+  where
+    by_case : (b.tray.net.phase ≡ phase.Running) ⊎ ((b.tray.net.phase ≡ phase.Halted) × IsRisen a.held.miniport.refusals b.held.miniport.refusals) → (c.tray.net.phase ≡ phase.Running) ⊎ (c.tray.net.phase ≡ phase.Halted)
+    by_case (inl runs) = inl (m.phase_is ∙ runs)
+    by_case (inr refused) = inr (m.phase_is ∙ refused.0)

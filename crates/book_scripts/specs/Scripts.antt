@@ -1,5 +1,5 @@
 -- What the calls of a script, and a whole run of them, add to a stack's journal.
-use Rattle.std.specs.Prelude.{◌≡◌, ◌==◌, ◌&&◌, Bool, true, false, List, [], ◌∷◌, ◌++◌, Option, Some}
+use Rattle.std.specs.Prelude.{◌≡◌, ◌⊎◌, ◌==◌, ◌&&◌, Bool, true, false, List, [], ◌∷◌, ◌++◌, Option, Some}
 use Rattle.ndis_base.specs.declared.Phase.TheVariants as phase
 use Rattle.journal_types.specs.declared.Event.{Event}
 use Rattle.journal_types.specs.declared.Event.TheVariants as event
@@ -13,6 +13,7 @@ use Rattle.stack_rules.specs.Net.{seen}
 use Rattle.promise_rules.specs.declared.Opening.TheVariants.{Initialising, Opened}
 use Rattle.promise_rules.specs.declared.Ending.TheVariants as ending
 use Rattle.promise_rules.specs.Own.{ending_of}
+use Rattle.driver_views.specs.States.{IsRisen}
 use Rattle.book_lemmas.specs.Views.{BookView}
 use Rattle.book_runs.specs.Adds.{AddsTurns, IsCall, OpensTo, EndsTo}
 use Rattle.book_runs.specs.Runs.{IsBetween, IsInPhase}
@@ -64,9 +65,11 @@ pub record IsWhole (head : StackHead) (before : List Turn) (filters : List Filte
   pub made : MakesAll calls middle
   pub ends : EndsTo (ending_of (seen head (before ++ (opening ++ middle))).phase) ending.Ended last
 
--- a whole run was added: the stack is Halted again, and the drivers did what its rows say
+-- a whole run was added: the stack is Halted again, and the drivers did what its rows say; it runs once it is opened and
+-- until its calls are made, unless its adapter refused, and counted that
 pub record RunsWhole (filters : List FilterSetup) (calls : List Call) (old new : BookView) : Type 0 where
   pub now : IsInPhase new phase.Halted
   pub head_is : new.tray.head ≡ old.tray.head
   pub added : AddsTurns (IsWhole old.tray.head old.tray.turns filters calls) old new
   pub turns : new.tray.turns ≡ old.tray.turns ++ added.more
+  pub ran : ((seen old.tray.head (old.tray.turns ++ (added.kind.opening ++ added.kind.middle))).phase ≡ phase.Running) ⊎ IsRisen old.held.miniport.refusals new.held.miniport.refusals

@@ -5,6 +5,7 @@ ghost use Rattle.ndis_base.specs.declared.LaneNo.{LaneNo};
 ghost use Rattle.ndis_base.specs.declared.Phase.TheVariants as phase;
 ghost use Rattle.script_types.specs.declared.StackSetup.{StackSetup};
 ghost use Rattle.promise_rules.specs.Followed.{IsFollowed};
+ghost use Rattle.book_lemmas.specs.Stands.{IsShelved};
 ghost use Rattle.book_parts.specs.Parts.{view_of};
 ghost use Rattle.book_runs.specs.Runs.{IsBetween, IsInPhase, is_fine};
 ghost use Rattle.book_scripts.specs.Laws.{MeetsLaws};
@@ -60,8 +61,8 @@ fn run_calls<M: MiniportCalls, P: ProtocolCalls, F: FilterCalls>(
 /// Runs a stack that was just opened: it is initialised, these filters are inserted and it is restarted; the calls are
 /// made in order, each with its tail; and it is ended. Each lane's calls stand in the journal once and in order, each
 /// with its tail, between the opening and the ending; the laws of sound journals hold of it; the drivers of the
-/// miniport and of the bindings count and log what it tells; and the stack runs, unless its adapter counted that it
-/// refused.
+/// miniport and of the bindings count and log what it tells; the stack runs, unless its adapter counted that it
+/// refused; and shelf and seats are those that are promised of the journal, where they were so before it.
 pub fn run_stack<M: MiniportCalls, P: ProtocolCalls, F: FilterCalls>(
     book: &mut BookParts<M, P, F>,
     alloc: Global,
@@ -79,6 +80,7 @@ pub fn run_stack<M: MiniportCalls, P: ProtocolCalls, F: FilterCalls>(
     ensures laws { OnOk result (MeetsLaws (view_of M.state P.state F.state book.old).tray.head (view_of M.state P.state F.state book.new).tray.turns) }
     ensures sound { OnOk result (Sound (view_of M.state P.state F.state book.old).tray.head (view_of M.state P.state F.state book.new).tray.turns) }
     ensures served { OnOk result (DriversServed (view_of M.state P.state F.state book.old).tray.head filters.now (view_of M.state P.state F.state book.new).tray.turns (view_of M.state P.state F.state book.old).held (view_of M.state P.state F.state book.new).held) }
+    ensures shelved { OnOk result (IsShelved (view_of M.state P.state F.state book.old).tray.net (view_of M.state P.state F.state book.old).tray.turns (view_of M.state P.state F.state book.old).held → IsShelved (view_of M.state P.state F.state book.new).tray.net (view_of M.state P.state F.state book.new).tray.turns (view_of M.state P.state F.state book.new).held) }
 {
     open_stack(book, alloc, filters)?;
     run_calls(book, alloc, calls)?;

@@ -1,5 +1,5 @@
-use Rattle.book_scripts.proofs.Whole.{asked_opened, runs_whole}
-use Rattle.book_scripts.proofs.Followed.{followed, opened_and_ended}
+use Rattle.book_scripts.proofs.Whole.{asked_opened, run_shelved, runs_or_halted, runs_whole}
+use Rattle.book_scripts.proofs.Followed.{followed}
 use Rattle.book_scripts.proofs.Laws.{run_is_sound, run_meets_laws}
 use Rattle.book_scripts.proofs.Served.{run_served}
 use Rattle.book_scripts.proofs.runs.run_stack.Goals as goal
@@ -7,17 +7,15 @@ use Rattle.book_scripts.proofs.runs.run_stack.Goals as goal
 pub run_calls-requires-clause-asked : goal.run_calls-requires-clause-asked
 run_calls-requires-clause-asked g c = asked_opened c.args.calls.now c.args.filters.now _ _ c.in_ok-open_stack.ensures.opens c.requires.asked
 
+pub end_stack-requires-clause-phase : goal.end_stack-requires-clause-phase
+end_stack-requires-clause-phase g c = runs_or_halted c.args.filters.now c.args.calls.now _ _ _ c.in_ok-open_stack.ensures.opens c.in_ok-run_calls.ensures.made
+
 pub returns-clause-whole : goal.returns-clause-whole
 returns-clause-whole g c = runs_whole _ _ _ _ _ _ c.in_ok-open_stack.ensures.opens c.in_ok-run_calls.ensures.made c.in_ok-end_stack.ensures.ends
 
 pub returns-clause-followed : goal.returns-clause-followed
 returns-clause-followed g c stacks lane =
     followed stacks _ _ _ _ lane c.requires.asked c.requires.fresh
-    (runs_whole _ _ _ _ _ _ c.in_ok-open_stack.ensures.opens c.in_ok-run_calls.ensures.made c.in_ok-end_stack.ensures.ends)
-
-pub returns-clause-ended : goal.returns-clause-ended
-returns-clause-ended g c =
-    opened_and_ended _ _ _ _ c.requires.fresh
     (runs_whole _ _ _ _ _ _ c.in_ok-open_stack.ensures.opens c.in_ok-run_calls.ensures.made c.in_ok-end_stack.ensures.ends)
 
 pub returns-clause-laws : goal.returns-clause-laws
@@ -30,4 +28,9 @@ returns-clause-sound g c =
 
 pub returns-clause-served : goal.returns-clause-served
 returns-clause-served g c =
-    run_served _ _ _ _ c.requires.fresh (runs_whole _ _ _ _ _ _ c.in_ok-open_stack.ensures.opens c.in_ok-run_calls.ensures.made c.in_ok-end_stack.ensures.ends)
+    run_served _ _ _ _ c.requires.fresh c.requires.halted.between
+    (runs_whole _ _ _ _ _ _ c.in_ok-open_stack.ensures.opens c.in_ok-run_calls.ensures.made c.in_ok-end_stack.ensures.ends)
+
+pub returns-clause-shelved : goal.returns-clause-shelved
+returns-clause-shelved g c =
+    run_shelved _ _ _ _ (runs_whole _ _ _ _ _ _ c.in_ok-open_stack.ensures.opens c.in_ok-run_calls.ensures.made c.in_ok-end_stack.ensures.ends)
