@@ -1,5 +1,5 @@
 -- A stack as it is opened stands.
-use Rattle.std.proofs.Common.{◌≡◌, ℕ, zero, suc, ◌+◌, ◌<◌, ◌≤◌, List, [], ◌∷◌, None, All, length, map, replicate, slice_index_or, refl, sym, ap, ◌∙◌, subst, arith}
+use Rattle.std.proofs.Common.{◌≡◌, ℕ, zero, suc, ◌+◌, ◌<◌, ◌≤◌, List, [], ◌∷◌, Some, None, All, length, map, replicate, slice_index_or, refl, sym, ap, ◌∙◌, subst, arith}
 use Rattle.std.proofs.lemmas.List.{length-map, length-replicate}
 use Rattle.std.proofs.lemmas.List.Elements.{All-nil, All-cons, All-head, All-tail, All-weaker}
 use Rattle.ndis_base.specs.declared.FilterKind.{FilterKind}
@@ -8,20 +8,19 @@ use Rattle.ndis_base.specs.declared.ModuleId.TheVariants.{Miniport, Filter, Bind
 use Rattle.ndis_base.specs.declared.ProtocolKind.{ProtocolKind}
 use Rattle.ndis_base.specs.declared.ProtocolKind.TheVariants as protocol_kind
 use Rattle.journal_types.specs.declared.StackHead.{StackHead}
-use Rattle.buffer_pools.specs.Views.{ListView, PoolView, live_count}
+use Rattle.buffer_pools.specs.Views.{PoolView, live_count}
 use Rattle.stack_rules.specs.Heads.{kind_of_binding}
-use Rattle.stack_rules.specs.Net.{Net, start, after_rows, seen}
+use Rattle.stack_rules.specs.declared.Attached.{Attached}
+use Rattle.stack_rules.specs.Net.{Net, start, attached, after_rows, seen}
 use Rattle.stack_rules.specs.Sound.{Sound}
 use Rattle.state_laws.specs.Laws.{IsThere}
-use Rattle.promise_rules.specs.Drivers.{places_from}
-use Rattle.driver_views.specs.States.{FilterState, ProtocolState}
+use Rattle.promise_rules.specs.Drivers.{places_from, shelf_of}
+use Rattle.driver_views.specs.States.{FilterState}
 use Rattle.driver_tray.specs.Tray.{TrayView, IsNew, begun_by}
-use Rattle.book_lemmas.specs.Views.{BookView, HeldView, IsPlace, no_pool, no_filter, no_protocol, filter_at, pool_at, seat_of, kept_of, held_pool}
-use Rattle.book_lemmas.specs.Follows.{Follows}
+use Rattle.book_lemmas.specs.Views.{HeldView, IsPlace, no_pool, no_filter, no_protocol, filter_at, pool_at, seat_of, kept_of, held_pool}
 use Rattle.book_lemmas.specs.Stands.{Stands, IsPoolOf, IsResting, IsClosed}
 use Rattle.book_lemmas.specs.Opened.{IsOpened}
 use Rattle.book_lemmas.proofs.Opening.{stands_start}
-use Rattle.book_parts.specs.Events.{IsBook, IsIdle}
 use Rattle.book_opening.specs.Opened.{pool_for, kind_of, IsHaltedDriver, IsClosedDriver, IsOpenedBook, HasParts}
 use Rattle.book_opening.specs.declared.opening.Beginning.{Beginning}
 
@@ -103,6 +102,9 @@ opened_held head h o = record {
         ap (λ ps. slice_index_or ps i no_pool) o.protocol_pools ∙ pool_index head.bindings i (subst (λ n. i < n) (length-replicate (length head.bindings) _) there) in
         record { size = ap (λ (p : PoolView). p.size) is; bytes = ap (λ (p : PoolView). p.bytes) is }
 
+none_there : (a : Attached) → None ≡ Some a → ⊥
+none_there a e = cc
+
 pub opened_book : (head : StackHead) (t : TrayView) (h : HeldView) → 1 ≤ length head.bindings → IsNew head t → Holds head h → IsOpenedBook head (record { tray = t; held = h })
 opened_book head t h bound n o = record {
   book = record {
@@ -114,9 +116,16 @@ opened_book head t h bound n o = record {
     bound = subst (λ (hd : StackHead). 1 ≤ length hd.bindings) (sym n.head) bound;
   };
   idle = record { rows = n.rows; told_by = n.told_by };
+  shelved = record {
+    shelf = o.shelf ∙ ap (λ ts. (shelf_of (map kind_of h.filters) ts).places) (sym n.turns);
+    seats = λ f a there. absurd (nobody f a there);
+  };
   head_is = n.head;
   turns = n.turns;
 }
+  where
+    nobody : (f : ℕ) (a : Attached) → attached f t.net.modules.filters ≡ Some a → ⊥
+    nobody f a there = none_there a (ap (λ (q : Net). attached f q.modules.filters) (sym n.net) ∙ there)
 
 -- what is held, by the parts with which it began
 pub held_as : {F : Type 0} (head : StackHead) (f : F → FilterState) (h : HeldView) (b : Beginning) (given items : List F)
@@ -135,3 +144,7 @@ held_as head f h b given items e_shelf e_seats e_pool e_pools e_filter_pools e_f
   closed = closed;
   resting = subst (All IsResting) (sym e_filters) resting;
 }
+
+-- an empty shelf rests
+pub none_rest : {F : Type 0} (f : F → FilterState) (fs gs : List F) → fs ≡ gs → gs ≡ [] → All IsResting (map f fs)
+none_rest f fs gs same none = subst (λ xs. All IsResting (map f xs)) (sym none ∙ sym same) (All-nil IsResting)

@@ -1,15 +1,15 @@
--- A stack that is opened over the drivers that are handed in.
-use Rattle.std.specs.Prelude.{◌≡◌, ℕ, ◌≤◌, List, [], None, All, length, map, replicate}
+-- A stack that is opened over the drivers that are handed in, and how they are handed back.
+use Rattle.std.specs.Prelude.{◌≡◌, ℕ, List, [], None, All, length, map, replicate}
 use Rattle.ndis_base.specs.declared.FilterKind.{FilterKind}
 use Rattle.ndis_base.specs.declared.ProtocolKind.{ProtocolKind}
 use Rattle.journal_types.specs.declared.StackHead.{StackHead}
 use Rattle.buffer_pools.specs.Views.{PoolView}
 use Rattle.promise_rules.specs.Drivers.{places_from}
 use Rattle.driver_views.specs.States.{FilterState, MiniportState, ProtocolState}
-use Rattle.driver_tray.specs.Tray.{TrayView, IsNew}
+use Rattle.driver_tray.specs.Tray.{IsNew}
 use Rattle.driver_choice.specs.Parts.{PartsView}
 use Rattle.book_lemmas.specs.Views.{BookView, no_pool}
-use Rattle.book_lemmas.specs.Stands.{IsResting, IsClosed}
+use Rattle.book_lemmas.specs.Stands.{IsResting, IsClosed, IsShelved}
 use Rattle.book_parts.specs.Events.{IsBook, IsIdle}
 use Rattle.book_opening.specs.declared.opening.StackDrivers.{StackDrivers}
 use Rattle.book_opening.specs.declared.opening.Beginning.{Beginning}
@@ -17,6 +17,14 @@ use Rattle.book_opening.specs.declared.opening.Beginning.{Beginning}
 -- the miniports and protocols that are handed in, by their states
 abbrev pub drivers_of : {M P F : Type 0} → (M → MiniportState) → (P → ProtocolState) → StackDrivers M P F → PartsView
 drivers_of m p d = record { miniports = map m d.miniports.items; protocols = map p d.protocols.items }
+
+-- all drivers that are handed in, by their states: the miniports and protocols, and the filters on the shelf
+pub record HandedView : Type 0 where
+  pub drivers : PartsView
+  pub shelf : List FilterState
+
+abbrev pub handed_of : {M P F : Type 0} → (M → MiniportState) → (P → ProtocolState) → (F → FilterState) → StackDrivers M P F → HandedView
+handed_of m p f d = record { drivers = drivers_of m p d; shelf = map f d.shelf.items }
 
 -- an empty pool for each binding
 abbrev pub pool_for : (ProtocolKind × ℕ) → PoolView
@@ -35,10 +43,10 @@ pub record IsClosedDriver (s : ProtocolState) : Type 0 where
   pub kept : s.kept ≡ []
 
 -- all drivers that are handed in rest, and keep nothing
-pub record AreIdle (drivers : PartsView) (shelf : List FilterState) : Type 0 where
-  pub miniports : All IsHaltedDriver drivers.miniports
-  pub protocols : All IsClosedDriver drivers.protocols
-  pub filters : All IsResting shelf
+pub record AreIdle (handed : HandedView) : Type 0 where
+  pub miniports : All IsHaltedDriver handed.drivers.miniports
+  pub protocols : All IsClosedDriver handed.drivers.protocols
+  pub filters : All IsResting handed.shelf
 
 -- what a stack has beside its drivers as it begins
 pub record HasParts (head : StackHead) (filters : List FilterState) (b : Beginning) : Type 0 where
@@ -50,9 +58,10 @@ pub record HasParts (head : StackHead) (filters : List FilterState) (b : Beginni
   pub protocol_pools : b.protocol_pools.items ≡ map pool_for head.bindings
   pub filter_pools : b.filter_pools.items ≡ replicate (length filters) no_pool
 
--- a stack of this head without turns
+-- a stack of this head without turns, whose filters all stand on the shelf
 pub record IsOpenedBook (head : StackHead) (b : BookView) : Type 0 where
   pub book : IsBook b
   pub idle : IsIdle b
+  pub shelved : IsShelved b.tray.net b.tray.turns b.held
   pub head_is : b.tray.head ≡ head
   pub turns : b.tray.turns ≡ []

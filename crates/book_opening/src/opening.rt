@@ -1,9 +1,10 @@
 //! Opening a stack over the drivers that are handed in.
-ghost use Rattle.std.specs.Prelude.{◌≡◌, ◌≤◌, ◌↔◌, [], None, Some, IfOk, IfErr, length, map};
+ghost use Rattle.std.specs.Prelude.{◌≡◌, ◌+◌, ◌<◌, ◌≤◌, ◌↔◌, [], None, Some, IfOk, IfErr, length, map};
+ghost use Rattle.std.specs.Vec.{vec_capacity};
 ghost use Rattle.book_parts.specs.Parts.{view_of};
 ghost use Rattle.book_opening.specs.declared.opening.OpenFault.TheVariants as open_fault;
 ghost use Rattle.driver_choice.specs.Chosen.{Lacks, Takes};
-ghost use Rattle.book_opening.specs.Opened.{drivers_of, AreIdle, IsOpenedBook, HasParts};
+ghost use Rattle.book_opening.specs.Opened.{drivers_of, handed_of, AreIdle, IsOpenedBook, HasParts};
 
 use crate::pools::{make_pools, no_pools, places_of};
 use book_parts::BookParts;
@@ -108,10 +109,15 @@ pub fn open<M: MiniportCalls, P: ProtocolCalls, F: FilterCalls>(
     drivers: StackDrivers<M, P, F>,
 ) -> Result<(BookParts<M, P, F>, StackDrivers<M, P, F>), (StackDrivers<M, P, F>, OpenFault)>
     requires bound { 1 ≤ length head.bindings }
-    requires idle { AreIdle (drivers_of M.state P.state drivers) (map F.state drivers.shelf.items) }
+    requires idle { AreIdle (handed_of M.state P.state F.state drivers) }
     ensures opened { IfOk result (λ r. IsOpenedBook head (view_of M.state P.state F.state r.0)) }
     ensures takes { IfOk result (λ r. Takes head (drivers_of M.state P.state drivers) (M.state r.0.miniport) (map P.state r.0.protocols.items) (drivers_of M.state P.state r.1)) }
     ensures filters { IfOk result (λ r. r.0.filters ≡ drivers.shelf) }
+    ensures no_shelf { IfOk result (λ r. r.1.shelf.items ≡ []) }
+    ensures idle { IfOk result (λ r. AreIdle (handed_of M.state P.state F.state r.1)) }
+    // The room that `close` asks for.
+    ensures miniport_room { IfOk result (λ r. length r.1.miniports.items < vec_capacity r.1.miniports) }
+    ensures protocol_room { IfOk result (λ r. length r.1.protocols.items + length head.bindings ≤ vec_capacity r.1.protocols) }
     ensures enough { IfOk result (λ r. Lacks head (drivers_of M.state P.state drivers) → ⊥) }
     ensures lacks { IfErr result (λ e. (e.1 ≡ open_fault.NoParts) ↔ Lacks head (drivers_of M.state P.state drivers)) }
     ensures unchanged { IfErr result (λ e. e.0 ≡ drivers) }

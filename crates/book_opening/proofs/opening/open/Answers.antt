@@ -1,9 +1,8 @@
-use Rattle.std.proofs.Common.{length, arith, ap, refl, ◌∙◌, ◌≡◌, subst, sym, map}
-use Rattle.driver_views.specs.States.{FilterState}
-use Rattle.driver_choice.proofs.Choice.{search_of, lacks_nothing, lacks_miniport, within_of, taken_at, each_of, all_taken, all_chosen, chosen_count, miniport_of_kind, protocols_of_kinds}
+use Rattle.std.proofs.Common.{length, arith, ap, refl, ◌∙◌, map}
+use Rattle.driver_choice.proofs.Choice.{search_of, lacks_nothing, lacks_miniport, taken_at, each_of, all_taken, all_chosen, chosen_count, miniport_of_kind, protocols_of_kinds}
 use Rattle.book_lemmas.specs.Views.{no_protocol}
-use Rattle.book_opening.specs.Opened.{IsHaltedDriver, IsClosedDriver, kind_of}
-use Rattle.book_opening.proofs.Begun.{opened_book, held_as}
+use Rattle.book_opening.specs.Opened.{IsHaltedDriver, IsClosedDriver}
+use Rattle.book_opening.proofs.Begun.{opened_book, held_as, none_rest}
 use Rattle.book_opening.proofs.opening.open.Goals as goal
 
 pub returns-in_default-clause-lacks : goal.returns-in_default-clause-lacks
@@ -37,3 +36,17 @@ returns-clause-opened g c =
     (all_taken IsHaltedDriver _ _ _ _ c.requires.idle.miniports takes.first).0
     (all_chosen IsClosedDriver _ _ _ _ c.requires.idle.protocols takes.each).0
     (chosen_count _ _ _ _ takes.each) c.requires.idle.filters)
+
+pub returns-clause-idle : goal.returns-clause-idle
+returns-clause-idle g c =
+    let takes = returns-clause-takes g c in
+    record {
+      miniports = (all_taken IsHaltedDriver _ _ _ _ c.requires.idle.miniports takes.first).1;
+      protocols = (all_chosen IsClosedDriver _ _ _ _ c.requires.idle.protocols takes.each).1;
+      filters = none_rest _ _ _ (ap (λ v. v.items) c.replace-filters.ensures.after) c.new.ensures.items;
+    }
+
+pub returns-clause-protocol_room : goal.returns-clause-protocol_room
+returns-clause-protocol_room g c =
+    let as_many = ap length (c.as_slice-4.ensures.value ∙ c.in-Ok-begin.ensures.setups) in
+    omega (arith, as_many, c.take_protocols.ensures.count, c.take_protocols.ensures.capacity, c.args.drivers.protocols.ok)
