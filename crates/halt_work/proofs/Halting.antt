@@ -42,7 +42,7 @@ use Rattle.setup_work.specs.SetUp.{closed}
 use Rattle.setup_work.proofs.Rows.{twice, twice_phase}
 use Rattle.halt_work.specs.Halted.{halt_refusal, closing, detached, last_rows, halted_rows, shut_down, MayShut, KeepsNothing}
 use Rattle.halt_work.specs.Risen.{sides_of, with_sides, risen_each}
-use Rattle.halt_work.proofs.Leaving.{AreUp, are_up, did_each, kinds_each, Keeps, keeps_each}
+use Rattle.halt_work.proofs.Leaving.{AreUp, are_up, did_each, refusals_each, kinds_each, Keeps, keeps_each}
 use Rattle.halt_work.proofs.Protocols.{closed_field, are_closed}
 use Rattle.halt_work.proofs.Sitting.{EachSits, each_sits}
 use Rattle.halt_work.proofs.Written.{closing_phases, halted_written, halted_calls, halted_logs, rows_are, closed_net, left_net, halted_net}
