@@ -3,8 +3,8 @@ use Rattle.std.proofs.Common.{◌≡◌, ℕ, List, [], ◌∷◌, ◌++◌, Opt
 use Rattle.std.specs.Prelude.{IfSome, IsTrue}
 use Rattle.std.proofs.lemmas.List.{append-nil}
 use Rattle.outside_io.specs.Edges.{before}
-use Rattle.journal_store.specs.Written.{Written}
-use Rattle.run_report.specs.Report.{report}
+use Rattle.flat_journal.specs.Flat.{FlatView}
+use Rattle.flat_report.specs.Report.{report}
 use Rattle.script_types.specs.declared.Script.{Script}
 use Rattle.script_types.specs.declared.ScriptPlace.{ScriptPlace}
 use Rattle.script_types.specs.declared.ScriptPlace.TheVariants as place
@@ -15,11 +15,9 @@ use Rattle.script_types.specs.declared.ScriptFault.TheVariants as fault
 use Rattle.script_forms.specs.Script.{Says, too_long, not_json, json, script_in}
 use Rattle.script_file.specs.Reads.{ReadsAs}
 use Rattle.script_runs.specs.Built.{is_built, IsRun}
-use Rattle.driver_laws.proofs.Runs.{run_served}
 use Rattle.ndis_cli.specs.declared.top.Status.{Status}
 use Rattle.ndis_cli.specs.declared.top.Status.TheVariants as status
-use Rattle.home_laws.specs.Rows.{rows_of}
-use Rattle.stack_book.specs.Parts.{PartsView}
+use Rattle.book_opening.specs.Opened.{HandedView}
 use Rattle.ndis_cli.specs.Answers.{IsFaulty, no_script, not_built, IsFine, LacksFirst, LacksParts, AreBack, Replayed, Wrote, IsOf, IsDone, IsWanting, is_early, ends_reading, ends_replay}
 
 -- what was read to the end of input is all that was left
@@ -183,16 +181,16 @@ done-enough status.Memory P w of none = tt
 done-enough (status.NoParts k) P w of none = absurd (none (of k refl))
 
 -- drivers are wanting for the script that was read
-pub lacks : (old : Option (List ℕ)) (script : Script) (parts : List PartsView) (k : ℕ) → IsOf old script → is_built script ≡ true → (k ≡ 0) × LacksFirst script parts → LacksParts old parts k
+pub lacks : (old : Option (List ℕ)) (script : Script) (parts : List HandedView) (k : ℕ) → IsOf old script → is_built script ≡ true → (k ≡ 0) × LacksFirst script parts → LacksParts old parts k
 lacks old script parts k is built few = record { script = script; is = is; built = built; only = few.0; lacks = few.1 }
 
 -- the report of a journal was begun
-pub replayed : (How : Option (List ℕ) → Option (List ℕ) → List ℕ → Type 0) (held held' : Option (List ℕ)) (script : Script) (journals : List Written) (journal : Written) (parts parts' : List PartsView)
-    → is_built script ≡ true → journals ≡ journal ∷ [] → IsRun script journal.head journal.turns → AreBack script.stacks (rows_of journal.turns) parts parts' → How held held' (report journals []) → Replayed How script parts parts' held held'
-replayed How held held' script journals journal parts parts' built only ran back written =
-    record { journal = journal; ran = ran; back = back; served = run_served script journal.head journal.turns back.first back.now built ran back.back; written = subst (λ js. How held held' (report js [])) only written }
+pub replayed : (How : Option (List ℕ) → Option (List ℕ) → List ℕ → Type 0) (held held' : Option (List ℕ)) (script : Script) (journals : List FlatView) (journal : FlatView) (parts parts' : List HandedView)
+    → journals ≡ journal ∷ [] → IsRun script journal.head journal.turns → AreBack script.stacks journal.turns parts parts' → How held held' (report journals []) → Replayed How script parts parts' held held'
+replayed How held held' script journals journal parts parts' only ran back written =
+    record { journal = journal; ran = ran; back = back; written = subst (λ js. How held held' (report js [])) only written }
 
-pub wrote : (How : Option (List ℕ) → Option (List ℕ) → List ℕ → Type 0) (old held held' : Option (List ℕ)) (script : Script) (parts parts' : List PartsView) → IsOf old script → is_built script ≡ true → Replayed How script parts parts' held held' → Wrote How old parts parts' held held'
+pub wrote : (How : Option (List ℕ) → Option (List ℕ) → List ℕ → Type 0) (old held held' : Option (List ℕ)) (script : Script) (parts parts' : List HandedView) → IsOf old script → is_built script ≡ true → Replayed How script parts parts' held held' → Wrote How old parts parts' held held'
 wrote How old held held' script parts parts' is built r = record { script = script; is = is; built = built; replayed = r }
 
 -- what holds of the one script holds of what was read

@@ -1,9 +1,9 @@
 -- What the top call answers, reads and writes.
 use Rattle.std.specs.Prelude.{◌≡◌, ℕ, true, false, Bool, List, [], ◌∷◌, Option, Some, Ok, Err, IfSome}
-use Rattle.journal_store.specs.Written.{Written}
+use Rattle.flat_journal.specs.Flat.{FlatView}
 use Rattle.outside_io.specs.Edges.{after}
-use Rattle.run_report.specs.Report.{report}
-use Rattle.journal_types.specs.declared.Row.{Row}
+use Rattle.flat_report.specs.Report.{report}
+use Rattle.journal_types.specs.declared.Turn.{Turn}
 use Rattle.script_types.specs.declared.Script.{Script}
 use Rattle.script_types.specs.declared.StackSetup.{StackSetup}
 use Rattle.script_types.specs.declared.ScriptPlace.{ScriptPlace}
@@ -12,11 +12,9 @@ use Rattle.script_types.specs.declared.ScriptCause.{ScriptCause}
 use Rattle.script_types.specs.declared.ScriptCause.TheVariants as cause
 use Rattle.script_types.specs.declared.ScriptFault.TheVariants as fault
 use Rattle.script_forms.specs.Script.{Says}
-use Rattle.home_laws.specs.Rows.{rows_of}
-use Rattle.stack_book.specs.Parts.{PartsView}
+use Rattle.book_opening.specs.Opened.{HandedView}
 use Rattle.script_runs.specs.Built.{is_built, IsRun}
-use Rattle.script_runs.specs.Drivers.{LacksDrivers, ComeBack}
-use Rattle.driver_laws.specs.Served.{RunServed}
+use Rattle.script_runs.specs.Drivers.{LacksDrivers, ComesBack}
 use Rattle.ndis_cli.specs.declared.top.Status.{Status}
 use Rattle.ndis_cli.specs.declared.top.Status.TheVariants.{Done, Usage, BadScript, ReadFault, WriteFault, Memory, NoParts}
 
@@ -35,27 +33,26 @@ AddsAll held held' text = held' ≡ after held text
 
 -- the drivers of the first of the parts came back after a run with these rows, and the other parts are as they
 -- were
-pub record AreBack (stacks : List StackSetup) (rows : List Row) (parts parts' : List PartsView) : Type 0 where
-  pub first : PartsView
-  pub more : List PartsView
+pub record AreBack (stacks : List StackSetup) (turns : List Turn) (parts parts' : List HandedView) : Type 0 where
+  pub first : HandedView
+  pub more : List HandedView
   pub handed : parts ≡ first ∷ more
-  pub now : PartsView
+  pub now : HandedView
   pub returned : parts' ≡ now ∷ more
-  pub back : ComeBack stacks rows first now
+  pub back : ComesBack stacks turns first now
 
 -- a script was run over the first of the parts: its journal is of its stack, sound, and as the laws and the
 -- script ask; the stack's drivers came back, did what its rows say and nothing else, and served it as is
 -- promised of journals; and what was written is the report of that journal, or, with AddsPrefix, a prefix of
 -- it
-pub record Replayed (How : Option (List ℕ) → Option (List ℕ) → List ℕ → Type 0) (script : Script) (parts parts' : List PartsView) (held held' : Option (List ℕ)) : Type 0 where
-  pub journal : Written
+pub record Replayed (How : Option (List ℕ) → Option (List ℕ) → List ℕ → Type 0) (script : Script) (parts parts' : List HandedView) (held held' : Option (List ℕ)) : Type 0 where
+  pub journal : FlatView
   pub ran : IsRun script journal.head journal.turns
-  pub back : AreBack script.stacks (rows_of journal.turns) parts parts'
-  pub served : RunServed script.stacks journal.turns back.first back.now back.back
+  pub back : AreBack script.stacks journal.turns parts parts'
   pub written : How held held' (report (journal ∷ []) [])
 
 -- the bytes are a script that can be run, and it was
-pub record Wrote (How : Option (List ℕ) → Option (List ℕ) → List ℕ → Type 0) (left : Option (List ℕ)) (parts parts' : List PartsView) (held held' : Option (List ℕ)) : Type 0 where
+pub record Wrote (How : Option (List ℕ) → Option (List ℕ) → List ℕ → Type 0) (left : Option (List ℕ)) (parts parts' : List HandedView) (held held' : Option (List ℕ)) : Type 0 where
   pub script : Script
   pub is : IsOf left script
   pub built : is_built script ≡ true
@@ -70,12 +67,12 @@ pub record IsFine (left : Option (List ℕ)) : Type 0 where
   pub built : is_built script ≡ true
 
 -- no drivers were handed in, or those for the first stack are too few
-abbrev pub LacksFirst : Script → List PartsView → Type 0
+abbrev pub LacksFirst : Script → List HandedView → Type 0
 LacksFirst script [] = Unit {0}
 LacksFirst script (first ∷ more) = LacksDrivers script.stacks first
 
 -- the bytes are a script that can be run, and the stack is its only one, for which drivers are wanting
-pub record LacksParts (left : Option (List ℕ)) (parts : List PartsView) (stack : ℕ) : Type 0 where
+pub record LacksParts (left : Option (List ℕ)) (parts : List HandedView) (stack : ℕ) : Type 0 where
   pub script : Script
   pub is : IsOf left script
   pub built : is_built script ≡ true

@@ -3,23 +3,22 @@ ghost use Rattle.std.specs.Prelude.{◌≡◌, ◌≢◌, ◌↔◌, ◌⊎◌, 
 ghost use Rattle.outside_io.specs.Edges.{Rose, AddsPrefix};
 ghost use Rattle.script_types.specs.declared.ScriptPlace.{ScriptPlace};
 ghost use Rattle.script_types.specs.declared.ScriptCause.{ScriptCause};
-ghost use Rattle.home_laws.specs.Rows.{rows_of};
-ghost use Rattle.stack_book.specs.Open.{AreIdle, IsHaltedDriver};
-ghost use Rattle.stack_book.specs.Stands.{IsClosed};
+ghost use Rattle.book_opening.specs.Opened.{AreIdle, handed_of};
 ghost use Rattle.script_runs.specs.Built.{is_built, IsRun};
-ghost use Rattle.script_runs.specs.Drivers.{LacksDrivers, ComeBack};
+ghost use Rattle.script_runs.specs.Drivers.{LacksDrivers, ComesBack};
 ghost use Rattle.ndis_cli.specs.Words as form;
 ghost use Rattle.ndis_cli.specs.Answers.{IsOf, IsFaulty, AddsAll, AreBack, Replayed, Wrote, IsFine, LacksFirst, LacksParts, is_early, ends_reading, ends_replay, IsDone, IsWanting};
 
 use crate::words::is_form;
-use journal_store::Journal;
+use book_opening::StackDrivers;
+use driver_calls::{FilterCalls, MiniportCalls, ProtocolCalls};
+use flat_journal::FlatJournal;
+use flat_report::write_flat_report;
 use outside_io::{ReadRefusal, Sink, Source, read_all};
-use run_report::{ReportFault, write_report};
+use run_report::ReportFault;
 use script_file::read_script;
 use script_runs::{RunFault, is_built, run_script};
 use script_types::{Script, ScriptCause, ScriptFault, ScriptPlace};
-use stack_book::StackParts;
-use stack_book::parts::Handed;
 use std::alloc::Global;
 
 /// The most bytes that a script has.
@@ -52,41 +51,38 @@ pub enum Status {
 /// Reads a script, opens its stack over the first of the parts, makes its calls, ends the stack, and
 /// writes the report. The drivers come back to where they were after every answer but `Memory`, those
 /// of the stack first; after an answer before the run they are as they were.
-pub fn ndis_serial<S: Source, K: Sink>(
+pub fn ndis_serial<S: Source, K: Sink, M: MiniportCalls, P: ProtocolCalls, F: FilterCalls>(
     alloc: Global,
     words: &[String],
     source: &mut S,
     sink: &mut K,
-    parts: &mut Vec<StackParts>,
+    parts: &mut Vec<StackDrivers<M, P, F>>,
 ) -> Status
-    requires halted { All (λ p. All IsHaltedDriver (⟦<StackParts as Handed>⟧.handed p).miniports) parts.old.items }
-    requires closed { All (λ p. All IsClosed (⟦<StackParts as Handed>⟧.handed p).protocols) parts.old.items }
+    requires idle { All AreIdle (map (λ p. handed_of M.state P.state F.state p) parts.old.items) }
     // Usage, exactly where the words are no form; then nothing is read.
     ensures usage { (result ≡ Status.Usage) ↔ (form.is_form (map (λ w. string_bytes w) words.now) ≡ false) }
     ensures unread { result ≡ Status.Usage → source.new ≡ source.old }
     // A script that is faulty.
     ensures bad { (at : ScriptPlace) (why : ScriptCause) → result ≡ Status.BadScript at why → IfSome (S.left source.old) (λ bytes. IsFaulty bytes at why) }
     // Drivers are wanting for the only stack of a script that can be run.
-    ensures no_parts { (k : ℕ) → result ≡ Status.NoParts k → LacksParts (S.left source.old) (map (λ p. ⟦<StackParts as Handed>⟧.handed p) parts.old.items) k }
+    ensures no_parts { (k : ℕ) → result ≡ Status.NoParts k → LacksParts (S.left source.old) (map (λ p. handed_of M.state P.state F.state p) parts.old.items) k }
     // After a run nothing is left to be read.
     ensures read { result ≡ Status.Done → IfSome (S.left source.new) (λ rest. rest ≡ []) }
     // Faults of the outside.
     ensures read_fault { result ≡ Status.ReadFault → Rose (S.faults source.old) (S.faults source.new) }
     ensures write_fault { result ≡ Status.WriteFault → Rose (K.faults sink.old) (K.faults sink.new) }
     // The report of a run of the script, whole, or a prefix of one.
-    ensures done { result ≡ Status.Done → Wrote AddsAll (S.left source.old) (map (λ p. ⟦<StackParts as Handed>⟧.handed p) parts.old.items) (map (λ p. ⟦<StackParts as Handed>⟧.handed p) parts.new.items) (K.holds sink.old) (K.holds sink.new) }
-    ensures cut { result ≡ Status.WriteFault → Wrote AddsPrefix (S.left source.old) (map (λ p. ⟦<StackParts as Handed>⟧.handed p) parts.old.items) (map (λ p. ⟦<StackParts as Handed>⟧.handed p) parts.new.items) (K.holds sink.old) (K.holds sink.new) }
-    ensures memory { result ≡ Status.Memory → (K.holds sink.new ≡ K.holds sink.old) ⊎ Wrote AddsPrefix (S.left source.old) (map (λ p. ⟦<StackParts as Handed>⟧.handed p) parts.old.items) (map (λ p. ⟦<StackParts as Handed>⟧.handed p) parts.new.items) (K.holds sink.old) (K.holds sink.new) }
+    ensures done { result ≡ Status.Done → Wrote AddsAll (S.left source.old) (map (λ p. handed_of M.state P.state F.state p) parts.old.items) (map (λ p. handed_of M.state P.state F.state p) parts.new.items) (K.holds sink.old) (K.holds sink.new) }
+    ensures cut { result ≡ Status.WriteFault → Wrote AddsPrefix (S.left source.old) (map (λ p. handed_of M.state P.state F.state p) parts.old.items) (map (λ p. handed_of M.state P.state F.state p) parts.new.items) (K.holds sink.old) (K.holds sink.new) }
+    ensures memory { result ≡ Status.Memory → (K.holds sink.new ≡ K.holds sink.old) ⊎ Wrote AddsPrefix (S.left source.old) (map (λ p. handed_of M.state P.state F.state p) parts.old.items) (map (λ p. handed_of M.state P.state F.state p) parts.new.items) (K.holds sink.old) (K.holds sink.new) }
     // Where nothing was run nothing is written, and the drivers are as they were.
     ensures silent { IsTrue (is_early result) → K.holds sink.new ≡ K.holds sink.old }
     ensures kept { IsTrue (is_early result) → parts.new.items ≡ parts.old.items }
     // Whatever drivers come back may be handed in again.
-    ensures halted { All (λ p. All IsHaltedDriver (⟦<StackParts as Handed>⟧.handed p).miniports) parts.new.items }
-    ensures closed { All (λ p. All IsClosed (⟦<StackParts as Handed>⟧.handed p).protocols) parts.new.items }
-    ensures shelves { map (λ p. p.shelf) parts.new.items ≡ map (λ p. p.shelf) parts.old.items }
+    ensures idle { All AreIdle (map (λ p. handed_of M.state P.state F.state p) parts.new.items) }
     // Where nothing is amiss it is done, or drivers are wanting, unless memory runs out.
-    ensures complete { form.is_form (map (λ w. string_bytes w) words.now) ≢ false → (fine : IsFine (S.left source.old)) → ¬ LacksFirst fine.script (map (λ p. ⟦<StackParts as Handed>⟧.handed p) parts.old.items) → ¬ Rose (S.faults source.old) (S.faults source.new) → ¬ Rose (K.faults sink.old) (K.faults sink.new) → IsDone result }
-    ensures lacking { form.is_form (map (λ w. string_bytes w) words.now) ≢ false → (fine : IsFine (S.left source.old)) → LacksFirst fine.script (map (λ p. ⟦<StackParts as Handed>⟧.handed p) parts.old.items) → ¬ Rose (S.faults source.old) (S.faults source.new) → IsWanting result }
+    ensures complete { form.is_form (map (λ w. string_bytes w) words.now) ≢ false → (fine : IsFine (S.left source.old)) → ¬ LacksFirst fine.script (map (λ p. handed_of M.state P.state F.state p) parts.old.items) → ¬ Rose (S.faults source.old) (S.faults source.new) → ¬ Rose (K.faults sink.old) (K.faults sink.new) → IsDone result }
+    ensures lacking { form.is_form (map (λ w. string_bytes w) words.now) ≢ false → (fine : IsFine (S.left source.old)) → LacksFirst fine.script (map (λ p. handed_of M.state P.state F.state p) parts.old.items) → ¬ Rose (S.faults source.old) (S.faults source.new) → IsWanting result }
 {
     if !is_form(words) {
         return Status::Usage;
@@ -134,32 +130,31 @@ fn read_built<S: Source>(alloc: Global, source: &mut S) -> Result<Script, Status
 }
 
 /// Runs a script over the first of the parts and writes its report.
-fn replay<K: Sink>(
+fn replay<K: Sink, M: MiniportCalls, P: ProtocolCalls, F: FilterCalls>(
     alloc: Global,
     script: &Script,
     sink: &mut K,
-    parts: &mut Vec<StackParts>,
+    parts: &mut Vec<StackDrivers<M, P, F>>,
 ) -> Status
     requires built { is_built script.now ≡ true }
-    requires idle { All AreIdle (map (λ p. ⟦<StackParts as Handed>⟧.handed p) parts.old.items) }
+    requires idle { All AreIdle (map (λ p. handed_of M.state P.state F.state p) parts.old.items) }
     ensures late { IsTrue (ends_replay result) }
-    ensures lacks { (k : ℕ) → result ≡ Status.NoParts k → (k ≡ 0) × LacksFirst script.now (map (λ p. ⟦<StackParts as Handed>⟧.handed p) parts.old.items) }
+    ensures lacks { (k : ℕ) → result ≡ Status.NoParts k → (k ≡ 0) × LacksFirst script.now (map (λ p. handed_of M.state P.state F.state p) parts.old.items) }
     ensures fault { result ≡ Status.WriteFault → Rose (K.faults sink.old) (K.faults sink.new) }
-    ensures done { result ≡ Status.Done → Replayed AddsAll script.now (map (λ p. ⟦<StackParts as Handed>⟧.handed p) parts.old.items) (map (λ p. ⟦<StackParts as Handed>⟧.handed p) parts.new.items) (K.holds sink.old) (K.holds sink.new) }
-    ensures cut { result ≡ Status.WriteFault → Replayed AddsPrefix script.now (map (λ p. ⟦<StackParts as Handed>⟧.handed p) parts.old.items) (map (λ p. ⟦<StackParts as Handed>⟧.handed p) parts.new.items) (K.holds sink.old) (K.holds sink.new) }
-    ensures memory { result ≡ Status.Memory → (K.holds sink.new ≡ K.holds sink.old) ⊎ Replayed AddsPrefix script.now (map (λ p. ⟦<StackParts as Handed>⟧.handed p) parts.old.items) (map (λ p. ⟦<StackParts as Handed>⟧.handed p) parts.new.items) (K.holds sink.old) (K.holds sink.new) }
+    ensures done { result ≡ Status.Done → Replayed AddsAll script.now (map (λ p. handed_of M.state P.state F.state p) parts.old.items) (map (λ p. handed_of M.state P.state F.state p) parts.new.items) (K.holds sink.old) (K.holds sink.new) }
+    ensures cut { result ≡ Status.WriteFault → Replayed AddsPrefix script.now (map (λ p. handed_of M.state P.state F.state p) parts.old.items) (map (λ p. handed_of M.state P.state F.state p) parts.new.items) (K.holds sink.old) (K.holds sink.new) }
+    ensures memory { result ≡ Status.Memory → (K.holds sink.new ≡ K.holds sink.old) ⊎ Replayed AddsPrefix script.now (map (λ p. handed_of M.state P.state F.state p) parts.old.items) (map (λ p. handed_of M.state P.state F.state p) parts.new.items) (K.holds sink.old) (K.holds sink.new) }
     ensures silent { (k : ℕ) → result ≡ Status.NoParts k → K.holds sink.new ≡ K.holds sink.old }
     ensures kept { (k : ℕ) → result ≡ Status.NoParts k → parts.new.items ≡ parts.old.items }
-    ensures idle { All AreIdle (map (λ p. ⟦<StackParts as Handed>⟧.handed p) parts.new.items) }
-    ensures shelves { map (λ p. p.shelf) parts.new.items ≡ map (λ p. p.shelf) parts.old.items }
-    ensures complete { ¬ LacksFirst script.now (map (λ p. ⟦<StackParts as Handed>⟧.handed p) parts.old.items) → ¬ Rose (K.faults sink.old) (K.faults sink.new) → IsDone result }
-    ensures lacking { LacksFirst script.now (map (λ p. ⟦<StackParts as Handed>⟧.handed p) parts.old.items) → IsWanting result }
+    ensures idle { All AreIdle (map (λ p. handed_of M.state P.state F.state p) parts.new.items) }
+    ensures complete { ¬ LacksFirst script.now (map (λ p. handed_of M.state P.state F.state p) parts.old.items) → ¬ Rose (K.faults sink.old) (K.faults sink.new) → IsDone result }
+    ensures lacking { LacksFirst script.now (map (λ p. handed_of M.state P.state F.state p) parts.old.items) → IsWanting result }
 {
     let journal = match run_first(alloc, script, parts) {
         Ok(journal) => journal,
         Err(status) => return status,
     };
-    match write_report(alloc, sink, std::slice::from_ref(&journal), &[]) {
+    match write_flat_report(alloc, sink, std::slice::from_ref(&journal), &[]) {
         Ok(()) => Status::Done,
         Err(ReportFault::Failed) => Status::WriteFault,
         Err(ReportFault::Memory) => Status::Memory,
@@ -167,17 +162,20 @@ fn replay<K: Sink>(
 }
 
 /// Runs a script over the first of the parts, where there is one.
-fn run_first(alloc: Global, script: &Script, parts: &mut Vec<StackParts>) -> Result<Journal, Status>
+fn run_first<M: MiniportCalls, P: ProtocolCalls, F: FilterCalls>(
+    alloc: Global,
+    script: &Script,
+    parts: &mut Vec<StackDrivers<M, P, F>>,
+) -> Result<FlatJournal, Status>
     requires built { is_built script.now ≡ true }
-    requires idle { All AreIdle (map (λ p. ⟦<StackParts as Handed>⟧.handed p) parts.old.items) }
+    requires idle { All AreIdle (map (λ p. handed_of M.state P.state F.state p) parts.old.items) }
     ensures run { IfOk result (λ journal. IsRun script.now journal.head journal.turns) }
-    ensures back { IfOk result (λ journal. AreBack script.now.stacks (rows_of journal.turns) (map (λ p. ⟦<StackParts as Handed>⟧.handed p) parts.old.items) (map (λ p. ⟦<StackParts as Handed>⟧.handed p) parts.new.items)) }
-    ensures enough { OnOk result (¬ LacksFirst script.now (map (λ p. ⟦<StackParts as Handed>⟧.handed p) parts.old.items)) }
+    ensures back { IfOk result (λ journal. AreBack script.now.stacks journal.turns (map (λ p. handed_of M.state P.state F.state p) parts.old.items) (map (λ p. handed_of M.state P.state F.state p) parts.new.items)) }
+    ensures enough { OnOk result (¬ LacksFirst script.now (map (λ p. handed_of M.state P.state F.state p) parts.old.items)) }
     ensures wanting { IfErr result (λ status. IsWanting status) }
-    ensures lacks { IfErr result (λ status. (k : ℕ) → status ≡ Status.NoParts k → LacksFirst script.now (map (λ p. ⟦<StackParts as Handed>⟧.handed p) parts.old.items)) }
+    ensures lacks { IfErr result (λ status. (k : ℕ) → status ≡ Status.NoParts k → LacksFirst script.now (map (λ p. handed_of M.state P.state F.state p) parts.old.items)) }
     ensures kept { IfErr result (λ status. (k : ℕ) → status ≡ Status.NoParts k → parts.new.items ≡ parts.old.items) }
-    ensures idle { All AreIdle (map (λ p. ⟦<StackParts as Handed>⟧.handed p) parts.new.items) }
-    ensures shelves { map (λ p. p.shelf) parts.new.items ≡ map (λ p. p.shelf) parts.old.items }
+    ensures idle { All AreIdle (map (λ p. handed_of M.state P.state F.state p) parts.new.items) }
 {
     if parts.is_empty() {
         return Err(Status::NoParts { stack: 0 });
@@ -192,16 +190,19 @@ fn run_first(alloc: Global, script: &Script, parts: &mut Vec<StackParts>) -> Res
 
 /// Runs a script over a stack's drivers, which come back to where they were, unless they are lost for
 /// want of memory: then the others stand there.
-fn run_over(alloc: Global, script: &Script, parts: &mut StackParts) -> Result<Journal, RunFault>
+fn run_over<M: MiniportCalls, P: ProtocolCalls, F: FilterCalls>(
+    alloc: Global,
+    script: &Script,
+    parts: &mut StackDrivers<M, P, F>,
+) -> Result<FlatJournal, RunFault>
     requires built { is_built script.now ≡ true }
-    requires idle { AreIdle (⟦<StackParts as Handed>⟧.handed parts.old) }
+    requires idle { AreIdle (handed_of M.state P.state F.state parts.old) }
     ensures run { IfOk result (λ journal. IsRun script.now journal.head journal.turns) }
-    ensures back { IfOk result (λ journal. ComeBack script.now.stacks (rows_of journal.turns) (⟦<StackParts as Handed>⟧.handed parts.old) (⟦<StackParts as Handed>⟧.handed parts.new)) }
-    ensures enough { OnOk result (¬ LacksDrivers script.now.stacks (⟦<StackParts as Handed>⟧.handed parts.old)) }
-    ensures lacks { IfErr result (λ e. e ≡ RunFault.NoParts → LacksDrivers script.now.stacks (⟦<StackParts as Handed>⟧.handed parts.old)) }
+    ensures back { IfOk result (λ journal. ComesBack script.now.stacks journal.turns (handed_of M.state P.state F.state parts.old) (handed_of M.state P.state F.state parts.new)) }
+    ensures enough { OnOk result (¬ LacksDrivers script.now.stacks (handed_of M.state P.state F.state parts.old)) }
+    ensures lacks { IfErr result (λ e. e ≡ RunFault.NoParts → LacksDrivers script.now.stacks (handed_of M.state P.state F.state parts.old)) }
     ensures unchanged { IfErr result (λ e. e ≢ RunFault.Lost → parts.new ≡ parts.old) }
-    ensures idle { AreIdle (⟦<StackParts as Handed>⟧.handed parts.new) }
-    ensures shelf { parts.new.shelf ≡ parts.old.shelf }
+    ensures idle { AreIdle (handed_of M.state P.state F.state parts.new) }
 {
     let first = std::mem::replace(parts, no_parts(alloc));
     match run_script(alloc, script, first) {
@@ -216,8 +217,8 @@ fn run_over(alloc: Global, script: &Script, parts: &mut StackParts) -> Result<Jo
     }
 }
 
-fn no_parts(alloc: Global) -> StackParts {
-    StackParts {
+fn no_parts<M, P, F>(alloc: Global) -> StackDrivers<M, P, F> {
+    StackDrivers {
         miniports: Vec::new(alloc),
         protocols: Vec::new(alloc),
         shelf: Vec::new(alloc),
@@ -225,10 +226,13 @@ fn no_parts(alloc: Global) -> StackParts {
 }
 
 /// Puts drivers where none stand.
-fn put_back(parts: &mut StackParts, first: StackParts)
+fn put_back<M: MiniportCalls, P: ProtocolCalls, F: FilterCalls>(
+    parts: &mut StackDrivers<M, P, F>,
+    first: StackDrivers<M, P, F>,
+)
     ensures { parts.new ≡ first }
 {
-    let StackParts {
+    let StackDrivers {
         miniports: _,
         protocols: _,
         shelf: _,

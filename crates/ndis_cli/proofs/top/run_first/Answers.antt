@@ -1,5 +1,5 @@
-use Rattle.std.proofs.Common.{rules, ◌<◌, length}
-use Rattle.ndis_cli.proofs.First.{lacks_first, first_lacks, idle_first, idle_set}
+use Rattle.std.proofs.Common.{rules, ◌<◌, length, sym, ◌∙◌, arith}
+use Rattle.ndis_cli.proofs.First.{positive, first_back, lacks_first, first_lacks, idle_first, idle_set}
 use Rattle.ndis_cli.proofs.top.run_first.Goals as goal
 
 pub run_over-requires-clause-idle : goal.run_over-requires-clause-idle
@@ -7,9 +7,14 @@ run_over-requires-clause-idle g c =
     let some : 0 < length c.args.parts.now.items = search rules in
     idle_first _ _ c.index_mut.result.now some c.index_mut.ensures.value c.requires.idle
 
+pub returns-in-Ok-clause-back : goal.returns-in-Ok-clause-back
+returns-in-Ok-clause-back g c =
+    let some : 0 < length c.args.parts.now.items = omega (arith, positive _ (sym c.is_empty.ensures ∙ c.if-is_empty.false), c.args.parts.now.ok.0) in
+    first_back _ _ _ _ c.index_mut.result.now c.run_over.new.parts some c.index_mut.ensures.value c.in-Ok.ensures.back
+
 pub returns-in-Ok-clause-enough : goal.returns-in-Ok-clause-enough
 returns-in-Ok-clause-enough g c l =
-    let some : 0 < length c.args.parts.now.items = search rules in
+    let some : 0 < length c.args.parts.now.items = omega (arith, positive _ (sym c.is_empty.ensures ∙ c.if-is_empty.false), c.args.parts.now.ok.0) in
     c.in-Ok.ensures.enough (first_lacks _ c.args.script.now _ c.index_mut.result.now some c.index_mut.ensures.value l)
 
 pub returns-in-Ok-clause-idle : goal.returns-in-Ok-clause-idle
