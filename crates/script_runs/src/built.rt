@@ -1,24 +1,27 @@
 //! Which scripts can be run.
 ghost use Rattle.std.specs.Prelude.{◌≡◌, IfOk};
 ghost use Rattle.std.specs.List.{list_all};
-ghost use Rattle.stack_rules.specs.Conditions.{is_cancel, is_frame, are_frames};
+ghost use Rattle.stack_rules.specs.Conditions.{is_cancel, is_frame, are_frames, is_fine_test, is_program, is_setup};
 ghost use Rattle.journal_types.specs.declared.StackHead.{StackHead};
 ghost use Rattle.script_events.specs.Events.{event_of};
+ghost use Rattle.book_scripts.specs.Scripts.{is_asked_event, is_asked_call};
 ghost use Rattle.script_runs.specs.Built as form;
 
-use journal_types::{BindingSetups, StackHead, UpperLinks};
-use ndis_base::{Frame, MiniportKind, OutOfMemory, ProtocolKind};
-use script_types::{Call, CallKind, Script, StackSetup};
+use journal_types::{BindingSetups, Setup, StackHead, UpperLinks};
+use ndis_base::{FilterKind, Frame, MiniportKind, OutOfMemory, ProtocolKind};
+use program_types::{Rule, Test};
+use script_types::{Call, CallKind, FilterSetup, Script, StackSetup};
 use std::alloc::Global;
 
-/// Whether a script can be run: one lane, one stack of a ring adapter and 1 to 8 log protocols
-/// without filters, and calls that send, transmit, pump or drain.
+/// Whether a script can be run: one lane; one stack of an adapter with a ring, of 1 to 8 protocols that
+/// log, retain or echo, and of at most 16 filters that pass, hold or count; and calls that send, transmit,
+/// pump or drain.
 pub fn is_built(script: &Script) -> bool
     ensures { result ≡ form.is_built script.now }
 {
     script.lanes == 1
         && match script.stacks.items() {
-            [stack] => is_built_stack(stack) && are_built_calls(stack, script.calls.items()),
+            [stack] => is_built_stack(stack) && are_asked_calls(stack, script.calls.items()),
             _ => false,
         }
 }
@@ -27,38 +30,102 @@ fn is_built_stack(stack: &StackSetup) -> bool
     ensures { result ≡ form.is_built_stack stack.now }
 {
     let bindings = stack.bindings.items();
-    stack.miniport.kind == MiniportKind::Ring
+    let filters = stack.filters.items();
+    is_built_miniport(stack.miniport.kind)
         && (1..=8).contains(&bindings.len())
-        && are_logs(bindings)
-        && stack.filters.items().is_empty()
+        && are_built_bindings(bindings)
+        && filters.len() <= 16
+        && are_built_filters(filters)
 }
 
-fn are_logs(bindings: &[(ProtocolKind, usize)]) -> bool
-    ensures { result ≡ list_all form.is_log bindings.now }
+fn is_built_miniport(kind: MiniportKind) -> bool
+    ensures { result ≡ form.is_built_miniport kind }
+{
+    !matches!(kind, MiniportKind::Virtual)
+}
+
+fn are_built_bindings(bindings: &[(ProtocolKind, usize)]) -> bool
+    ensures { result ≡ list_all form.is_built_binding bindings.now }
 {
     match bindings {
-        [first, rest @ ..] => first.0 == ProtocolKind::Log && are_logs(rest),
+        [first, rest @ ..] => { !matches!(first.0, ProtocolKind::Mux) && are_built_bindings(rest) }
         [] => true,
     }
 }
 
-fn are_built_calls(stack: &StackSetup, calls: &[Call]) -> bool
-    ensures { result ≡ list_all (form.is_built_call (form.head_of stack.now)) calls.now }
+fn are_built_filters(filters: &[FilterSetup]) -> bool
+    ensures { result ≡ list_all form.is_built_filter filters.now }
+{
+    match filters {
+        [first, rest @ ..] => is_built_filter(first) && are_built_filters(rest),
+        [] => true,
+    }
+}
+
+fn is_built_filter(filter: &FilterSetup) -> bool
+    ensures { result ≡ form.is_built_filter filter.now }
+{
+    is_built_kind(filter.kind) && is_setup(&filter.setup)
+}
+
+fn is_built_kind(kind: FilterKind) -> bool
+    ensures { result ≡ form.is_built_kind kind }
+{
+    matches!(
+        kind,
+        FilterKind::Pass | FilterKind::Hold | FilterKind::Count
+    )
+}
+
+fn is_setup(setup: &Setup) -> bool
+    ensures { result ≡ is_setup setup.now }
+{
+    (1..=256).contains(&setup.pool)
+        && is_program(setup.send.rules())
+        && is_program(setup.receive.rules())
+}
+
+fn is_program(rules: &[Rule]) -> bool
+    ensures { result ≡ is_program rules.now }
+{
+    rules.len() <= 16 && are_fine(rules)
+}
+
+fn are_fine(rules: &[Rule]) -> bool
+    ensures { result ≡ list_all (λ r. is_fine_test r.test) rules.now }
+{
+    match rules {
+        [first, rest @ ..] => is_fine_test(first.test) && are_fine(rest),
+        [] => true,
+    }
+}
+
+fn is_fine_test(test: Test) -> bool
+    ensures { result ≡ is_fine_test test }
+{
+    match test {
+        Test::Vlan(n) => n < 4096,
+        _ => true,
+    }
+}
+
+fn are_asked_calls(stack: &StackSetup, calls: &[Call]) -> bool
+    ensures { result ≡ list_all (is_asked_call (form.head_of stack.now)) calls.now }
 {
     match calls {
-        [first, rest @ ..] => is_built_call(stack, first) && are_built_calls(stack, rest),
+        [first, rest @ ..] => is_asked_call(stack, first) && are_asked_calls(stack, rest),
         [] => true,
     }
 }
 
-fn is_built_call(stack: &StackSetup, call: &Call) -> bool
-    ensures { result ≡ form.is_built_call (form.head_of stack.now) call.now }
+fn is_asked_call(stack: &StackSetup, call: &Call) -> bool
+    ensures { result ≡ is_asked_call (form.head_of stack.now) call.now }
 {
-    call.stack == 0 && is_built_kind(stack, &call.kind)
+    call.stack == 0 && is_asked_kind(stack, &call.kind)
 }
 
-fn is_built_kind(stack: &StackSetup, kind: &CallKind) -> bool
-    ensures { result ≡ form.is_built_event (form.head_of stack.now) (event_of kind.now) }
+fn is_asked_kind(stack: &StackSetup, kind: &CallKind) -> bool
+    ensures { result ≡ is_asked_event (form.head_of stack.now) (event_of kind.now) }
 {
     match kind {
         CallKind::Send {

@@ -43,7 +43,7 @@ returns-clause-idle g c =
     record {
       miniports = (all_taken IsHaltedDriver _ _ _ _ c.requires.idle.miniports takes.first).1;
       protocols = (all_chosen IsClosedDriver _ _ _ _ c.requires.idle.protocols takes.each).1;
-      filters = none_rest _ _ _ (ap (λ v. v.items) c.replace-filters.ensures.after) c.new.ensures.items;
+      filters = none_rest g.F.FilterCalls.state c.replace-filters.new.dest.items c.new.result.items (ap (λ v. v.items) c.replace-filters.ensures.after) c.new.ensures.items;
     }
 
 pub returns-clause-protocol_room : goal.returns-clause-protocol_room
