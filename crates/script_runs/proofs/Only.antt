@@ -78,14 +78,23 @@ runnable script s stack cs built same only calls =
     }
 
 -- a stack that was just opened may be run
-pub may_run : (head : StackHead) (b : BookView) → is_virtual head.kind ≡ false → IsOpenedBook head b → IsInPhase b phase.Halted
-may_run head b ring o = record {
+pub may_run : (stack : StackSetup) (calls : List Call) (head : StackHead) (b : BookView) → IsRunnable stack calls → head ≡ form.head_of stack → IsOpenedBook head b → IsInPhase b phase.Halted
+may_run stack calls head b r is o = record {
   between = record {
     book = o.book;
     idle = o.idle;
-    rings = ap (λ (h : StackHead). is_virtual h.kind) o.head_is ∙ ring;
+    rings = ap (λ (h : StackHead). is_virtual h.kind) (o.head_is ∙ is) ∙ r.ring;
     unasked = subst AreUnasked (sym o.turns) tt;
     untaken = subst (All (λ (turn : Turn). is_take turn.event ≡ false)) (sym o.turns) (All-nil (λ (turn : Turn). is_take turn.event ≡ false));
   };
   phase_is = ap (λ (n : Net). n.phase) (idle_state b o.book o.idle) ∙ ap (λ ts. (seen b.tray.head ts).phase) o.turns;
 }
+
+pub few_filters : (stack : StackSetup) (calls : List Call) (fs : List FilterSetup) → IsRunnable stack calls → fs ≡ stack.filters → length fs ≤ 16
+few_filters stack calls fs r same = subst (λ (xs : List FilterSetup). length xs ≤ 16) (sym same) r.few
+
+pub fine_filters : (stack : StackSetup) (calls : List Call) (fs : List FilterSetup) → IsRunnable stack calls → fs ≡ stack.filters → list_all is_fine fs ≡ true
+fine_filters stack calls fs r same = ap (list_all is_fine) same ∙ r.fine
+
+pub calls_asked : (stack : StackSetup) (calls : List Call) (begun head : StackHead) → IsRunnable stack calls → begun ≡ head → head ≡ form.head_of stack → list_all (is_asked_call begun) calls ≡ true
+calls_asked stack calls begun head r kept is = ap (λ (h : StackHead). list_all (is_asked_call h) calls) (kept ∙ is) ∙ r.asked
