@@ -1,0 +1,6 @@
+pub mod Here
+pub mod Keeps
+pub mod Works
+pub mod Events
+pub mod Turns
+pub mod Calls
