@@ -37,7 +37,8 @@ use Rattle.rule_basics.specs.Live.{Each}
 use Rattle.state_laws.proofs.Rows.{by_test}
 use Rattle.pause_laws.proofs.Works.{each_away}
 use Rattle.place_laws.specs.Kept.{EachStatus}
-use Rattle.attached_laws.proofs.Here.{IsHere, GoesHere, AreHere, HoldsHere, here-append}
+use Rattle.family_laws.proofs.Changes.{OfChanges, initialize_every, begin_every, pause_every, restart_every, halt_every, remove_every, insert_every, replace_every}
+use Rattle.attached_laws.proofs.Here.{IsHere, GoesHere, RowIsHere, AreHere, HoldsHere}
 use Rattle.attached_laws.proofs.Works.{ListHere, status_goes, here_homeward, here_transmitted, here_lent_up, here_cancel, here_moved, here_status, here_drained, GivesHere, gives_here, here_giving}
 
 -- what the event and its answer tell beside the rows leaves it so
@@ -47,18 +48,9 @@ told_holds ms net (event.Replace old kind setup) (reply.Replaced f) h = record {
 told_holds ms net (event.CrossTakeUp binding vlan) (reply.Taken message frames) h = record { statuses = h.statuses; given = h.given }
 told_holds ms net e r h = h
 
--- rows of states
-pub here_states : (ms : Modules) (ss : List ModuleState) (others : List ModuleId) → AreHere ms (state_rows ss others)
-here_states ms ss [] = tt
-here_states ms ss (m ∷ others) = here-append ms (map (λ s. state_row s m) ss) (state_rows ss others) (each ss) (here_states ms ss others)
-  where
-    each : (ss : List ModuleState) → AreHere ms (map (λ s. state_row s m) ss)
-    each [] = tt
-    each (s ∷ ss) = (tt, each ss)
-
-here_if : (ms : Modules) (b : Bool) (xs ys : List Row) → AreHere ms xs → AreHere ms ys → AreHere ms (if b then xs else ys)
-here_if ms true xs ys h k = h
-here_if ms false xs ys h k = k
+-- rows of phases and configurations
+pub phases_here : (ms : Modules) → OfChanges (RowIsHere ms)
+phases_here ms = record { states = λ s m other. tt; stack = λ p. tt }
 
 -- the first status on its way
 first_status : (P : _) (ts : List Thing) (s : _) → EachStatus P ts → find is_away ts ≡ Some (thing.Status s) → P s
@@ -113,31 +105,10 @@ module _ (net : Net) (owned : Each (ListHere net.modules) (lists net.things)) (h
   take_up_here (Some m) = (tt, tt)
 
   pub event_here : (e : Event) (c : Choice) → Here (outcome net e c)
-  event_here event.Initialize c =
-      by_test Here (phase_is_halted net.phase) _ _
-      (λ _. by_test Here c.refuses _ _ (λ _. tt)
-      (λ _. (tt, here-append net.modules (state_rows (state.Opening ∷ state.Paused ∷ []) (binding_ids 0 net.modules.bindings)) _ (here_states net.modules (state.Opening ∷ state.Paused ∷ []) (binding_ids 0 net.modules.bindings)) (tt, (tt, tt)))))
-      (λ _. tt)
-  event_here (event.Insert kind position setup) c =
-      by_test Here (phase_is_paused net.phase) _ _
-      (λ _. by_test Here (live_items net == 0) _ _
-      (λ _. by_test Here (length net.modules.order == max_filters net.head) _ _ (λ _. tt)
-      (λ _. by_test Here (is_bad_position net position) _ _ (λ _. tt)
-      (λ _. by_test Here c.shelf_empty _ _ (λ _. tt) (λ _. by_test Here c.refuses _ _ (λ _. tt) (λ _. (tt, (tt, (tt, tt))))))))
-      (λ _. tt))
-      (λ _. tt)
-  event_here (event.Remove filter) c =
-      by_test Here (phase_is_paused net.phase) _ _
-      (λ _. by_test Here (live_items net == 0) _ _ (λ _. by_test Here (is_in filter net.modules.order) _ _ (λ _. (tt, (tt, tt))) (λ _. tt)) (λ _. tt))
-      (λ _. tt)
-  event_here (event.Replace filter kind setup) c =
-      by_test Here (phase_is_paused net.phase) _ _
-      (λ _. by_test Here (live_items net == 0) _ _
-      (λ _. by_test Here (is_in filter net.modules.order) _ _
-      (λ _. by_test Here c.shelf_empty _ _ (λ _. tt) (λ _. by_test Here c.refuses _ _ (λ _. tt) (λ _. (tt, (tt, (tt, (tt, tt)))))))
-      (λ _. tt))
-      (λ _. tt))
-      (λ _. tt)
+  event_here event.Initialize c = initialize_every (RowIsHere net.modules) (phases_here net.modules) (λ config filters. tt) net c.refuses
+  event_here (event.Insert kind position setup) c = insert_every (RowIsHere net.modules) (phases_here net.modules) (λ config filters. tt) (λ f. tt) net position c
+  event_here (event.Remove filter) c = remove_every (RowIsHere net.modules) (phases_here net.modules) (λ config filters. tt) net filter
+  event_here (event.Replace filter kind setup) c = replace_every (RowIsHere net.modules) (phases_here net.modules) (λ config filters. tt) (λ f. tt) net filter c
   event_here (event.Send binding cancel frames) c =
       by_test Here (phase_is_running net.phase) _ _
       (λ _. by_test Here (is_full net (Binding binding)) _ _ (λ _. tt) (λ _. (tt, (tt, tt))))
@@ -159,31 +130,10 @@ module _ (net : Net) (owned : Each (ListHere net.modules) (lists net.things)) (h
   event_here event.Transmit c = transmit_here (first_in_ring net)
   event_here event.Pump c = pump_here c.keeps (agenda_first net) refl
   event_here event.Drain c = by_test Here (is_pump_moving net) _ _ (λ _. pump_here c.keeps (agenda_first net) refl) (λ _. here_drained net)
-  event_here event.BeginPause c =
-      by_test Here (phase_is_running net.phase) _ _ (λ _. (tt, here_states net.modules (state.Pausing ∷ []) (binding_ids 0 net.modules.bindings))) (λ _. tt)
-  event_here event.PauseNext c =
-      by_test Here (phase_is_pausing net.phase) _ _
-      (λ _. by_test Here (outstanding net (first_unpaused net) == 0) _ _
-      (λ _. here-append net.modules (state_rows (state.Paused ∷ []) (slice_index_or (floors net.modules) (first_unpaused net) [])) _
-      (here_states net.modules (state.Paused ∷ []) (slice_index_or (floors net.modules) (first_unpaused net) []))
-      (here_if net.modules (nat_lt (first_unpaused net + 1) (length (floors net.modules))) _ _ (here_states net.modules (state.Pausing ∷ []) (slice_index_or (floors net.modules) (first_unpaused net + 1) [])) (tt, tt)))
-      (λ _. tt))
-      (λ _. tt)
-  event_here event.RestartNext c =
-      by_test Here (phase_is_paused net.phase || phase_is_restarting net.phase) _ _
-      (λ _. here-append net.modules (if phase_is_paused net.phase then row.Phase (of.Stack phase.Restarting) ∷ [] else []) _
-      (here_if net.modules (phase_is_paused net.phase) _ _ (tt, tt) tt)
-      (here-append net.modules (state_rows (state.Restarting ∷ state.Running ∷ []) (slice_index_or (reverse (floors net.modules)) (running_floors net) [])) _
-      (here_states net.modules (state.Restarting ∷ state.Running ∷ []) (slice_index_or (reverse (floors net.modules)) (running_floors net) []))
-      (here_if net.modules (is_top net (running_floors net)) _ _ (tt, tt) tt)))
-      (λ _. tt)
-  event_here event.Halt c =
-      by_test Here (phase_is_paused net.phase) _ _
-      (λ _. by_test Here (halt_items net == 0) _ _
-      (λ _. here-append net.modules (state_rows (state.Closing ∷ state.Unbound ∷ []) (binding_ids 0 net.modules.bindings)) _ (here_states net.modules (state.Closing ∷ state.Unbound ∷ []) (binding_ids 0 net.modules.bindings))
-      (here-append net.modules (state_rows (state.Detached ∷ []) (map Filter net.modules.order)) _ (here_states net.modules (state.Detached ∷ []) (map Filter net.modules.order)) (tt, (tt, tt))))
-      (λ _. tt))
-      (λ _. tt)
+  event_here event.BeginPause c = begin_every (RowIsHere net.modules) (phases_here net.modules) net
+  event_here event.PauseNext c = pause_every (RowIsHere net.modules) (phases_here net.modules) net
+  event_here event.RestartNext c = restart_every (RowIsHere net.modules) (phases_here net.modules) net
+  event_here event.Halt c = halt_every (RowIsHere net.modules) (phases_here net.modules) net
   event_here event.CrossTake c = take_here (first_uncrossed net)
   event_here (event.CrossPut stack message vlan frames) c =
       by_test Here (phase_is_running net.phase) _ _

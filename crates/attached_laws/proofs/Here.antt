@@ -18,6 +18,7 @@ use Rattle.stack_rules.specs.declared.Thing.TheVariants as thing
 use Rattle.stack_rules.specs.Net.{Net, Modules, attached, after, after_rows, had_by, taken_by, is_list, is_status, without_status, request_of, given_to, place_below, place_of_clone, place_of_request}
 use Rattle.rule_basics.specs.Live.{EachRequest}
 use Rattle.place_laws.specs.Kept.{EachStatus}
+use Rattle.family_laws.proofs.Changes.{Every}
 use Rattle.status_laws.proofs.Things.{each-filter, each-append, each-changed, each-kept, each-passed, each-done}
 
 -- a module is there: a filter is attached
@@ -46,8 +47,7 @@ RowIsHere ms (row.Status number name to) = GoesHere ms to
 RowIsHere ms _ = Unit {0}
 
 abbrev pub AreHere : Modules → List Row → Type 0
-AreHere ms [] = Unit {0}
-AreHere ms (r ∷ rows) = RowIsHere ms r × AreHere ms rows
+AreHere ms rows = Every (RowIsHere ms) rows
 
 -- statuses go to modules that are there, and such modules have the requests that are given
 pub record HoldsHere (ms : Modules) (net : Net) : Type 0 where
@@ -125,7 +125,3 @@ holds_after ms net (row.CrossIn stack message way frames) i h = record { statuse
 pub holds_rows : (ms : Modules) (net : Net) (rows : List Row) → AreHere ms rows → HoldsHere ms net → HoldsHere ms (after_rows net rows)
 holds_rows ms net [] i h = h
 holds_rows ms net (r ∷ rows) i h = holds_rows ms (after net r) rows i.1 (holds_after ms net r i.0 h)
-
-pub here-append : (ms : Modules) (xs ys : List Row) → AreHere ms xs → AreHere ms ys → AreHere ms (xs ++ ys)
-here-append ms [] ys h k = k
-here-append ms (x ∷ xs) ys h k = (h.0, here-append ms xs ys h.1 k)

@@ -4,3 +4,4 @@ pub mod Works
 pub mod Events
 pub mod Turns
 pub mod Calls
+pub mod Drivers

@@ -46,10 +46,11 @@ use Rattle.work_laws.proofs.InPlace.{all_in_place}
 use Rattle.homeward_laws.specs.Homeward.{IsOwned, IsBound, IsBoundFor}
 use Rattle.homeward_laws.proofs.Owners.{each_is_owned}
 use Rattle.homeward_laws.proofs.Targets.{each_is_bound}
-use Rattle.attached_laws.proofs.Here.{IsHere, GoesHere, AtHere, AreHere, HoldsHere, holds_rows, here-append}
+use Rattle.family_laws.proofs.Changes.{halt_every}
+use Rattle.attached_laws.proofs.Here.{IsHere, GoesHere, AtHere, RowIsHere, AreHere, HoldsHere, holds_rows}
 use Rattle.attached_laws.proofs.Keeps.{AreMild, mild-append, mild_if, mild_states, holds_mild}
 use Rattle.attached_laws.proofs.Works.{StandHere, ListHere}
-use Rattle.attached_laws.proofs.Events.{event_here, here_states, told_holds}
+use Rattle.attached_laws.proofs.Events.{event_here, phases_here, told_holds}
 
 -- the lists
 each_both : (P Q : LiveList → Type 0) (ls : List LiveList) → Each P ls → Each Q ls → Each (λ l. P l × Q l) ls
@@ -135,9 +136,9 @@ module _ (net : Net) (h : HoldsHere net.modules net) where
   abbrev Holds : Event → Outcome → Type 0
   Holds e o = HoldsHere (state_after net e o).modules (state_after net e o)
 
-  -- rows that fit any modules, after which nothing goes anywhere
-  all_hold : (e : Event) (o : Outcome) → ((ms : Modules) → HoldsHere ms net) → ((ms : Modules) → AreHere ms o.rows) → Holds e o
-  all_hold e o none here =
+  -- nothing goes anywhere, whatever the modules become
+  over : (e : Event) (o : Outcome) → ((ms : Modules) → HoldsHere ms net) → ((ms : Modules) → AreHere ms o.rows) → Holds e o
+  over e o none here =
       let ms : Modules = (state_after net e o).modules in
       holds_rows ms (told net e o.reply) o.rows (here ms) (told_holds ms net e o.reply (none ms))
 
@@ -188,14 +189,14 @@ module _ (net : Net) (h : HoldsHere net.modules net) where
       (λ t. by_test (Holds e) (length net.modules.order == max_filters net.head) _ _ (λ _. h)
       (λ _. by_test (Holds e) (is_bad_position net position) _ _ (λ _. h)
       (λ _. by_test (Holds e) c.shelf_empty _ _ (λ _. h)
-      (λ _. by_test (Holds e) c.refuses _ _ (λ _. h) (λ _. all_hold e (inserted net position) (λ ms. quiet_holds ms net t) (λ ms. (tt, (tt, (tt, tt)))))))))
+      (λ _. by_test (Holds e) c.refuses _ _ (λ _. h) (λ _. over e (inserted net position) (λ ms. quiet_holds ms net t) (λ ms. (tt, (tt, (tt, tt)))))))))
       (λ _. h))
       (λ _. h)
   changed_holds (event.Remove filter) c p =
       let e : Event = event.Remove filter in
       by_test (Holds e) (phase_is_paused net.phase) _ _
       (λ _. by_test (Holds e) (live_items net == 0) _ _
-      (λ t. by_test (Holds e) (is_in filter net.modules.order) _ _ (λ _. all_hold e (removed net filter) (λ ms. quiet_holds ms net t) (λ ms. (tt, (tt, tt)))) (λ _. h))
+      (λ t. by_test (Holds e) (is_in filter net.modules.order) _ _ (λ _. over e (removed net filter) (λ ms. quiet_holds ms net t) (λ ms. (tt, (tt, tt)))) (λ _. h))
       (λ _. h))
       (λ _. h)
   changed_holds (event.Replace filter kind setup) c p =
@@ -204,18 +205,16 @@ module _ (net : Net) (h : HoldsHere net.modules net) where
       (λ _. by_test (Holds e) (live_items net == 0) _ _
       (λ t. by_test (Holds e) (is_in filter net.modules.order) _ _
       (λ _. by_test (Holds e) c.shelf_empty _ _ (λ _. h)
-      (λ _. by_test (Holds e) c.refuses _ _ (λ _. h) (λ _. all_hold e (replaced net filter) (λ ms. quiet_holds ms net t) (λ ms. (tt, (tt, (tt, (tt, tt))))))))
+      (λ _. by_test (Holds e) c.refuses _ _ (λ _. h) (λ _. over e (replaced net filter) (λ ms. quiet_holds ms net t) (λ ms. (tt, (tt, (tt, (tt, tt))))))))
       (λ _. h))
       (λ _. h))
       (λ _. h)
   changed_holds event.Halt c p =
-      by_test (Holds event.Halt) (phase_is_paused net.phase) _ _
-      (λ _. by_test (Holds event.Halt) (halt_items net == 0) _ _
-      (λ t. all_hold event.Halt (record { reply = reply.Halted; rows = halt_rows net }) (λ ms. over_holds ms net t)
-      (λ ms. here-append ms (state_rows (state.Closing ∷ state.Unbound ∷ []) (binding_ids 0 net.modules.bindings)) _ (here_states ms (state.Closing ∷ state.Unbound ∷ []) (binding_ids 0 net.modules.bindings))
-      (here-append ms (state_rows (state.Detached ∷ []) (map Filter net.modules.order)) _ (here_states ms (state.Detached ∷ []) (map Filter net.modules.order)) (tt, (tt, tt)))))
-      (λ _. h))
-      (λ _. h)
+      let K : Outcome → Type 0 = λ o. ((ms : Modules) → AreHere ms o.rows) → Holds event.Halt o in
+      by_test K (phase_is_paused net.phase) _ _
+      (λ _. by_test K (halt_items net == 0) _ _ (λ t here. over event.Halt (record { reply = reply.Halted; rows = halt_rows net }) (λ ms. over_holds ms net t) here) (λ _ here. h))
+      (λ _ here. h)
+      (λ ms. halt_every (RowIsHere ms) (phases_here ms) net)
   changed_holds _ c p = cc
 
   event_holds : (e : Event) (c : Choice) → Each (ListHere net.modules) (lists net.things) → Holds e (outcome net e c)

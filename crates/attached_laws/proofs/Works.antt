@@ -42,7 +42,8 @@ use Rattle.stack_rules.specs.Statuses.{seen_by_all, status_rows}
 use Rattle.state_laws.proofs.Rows.{by_test}
 use Rattle.state_laws.proofs.Takes.{attached-is}
 use Rattle.state_laws.proofs.Calm.{All, All-append, All-map, first_of_all}
-use Rattle.attached_laws.proofs.Here.{IsHere, GoesHere, RowIsHere, AreHere, here-append}
+use Rattle.family_laws.proofs.Changes.{every-append}
+use Rattle.attached_laws.proofs.Here.{IsHere, GoesHere, RowIsHere, AreHere}
 
 -- a list that goes to a module goes to one that is there, and its owner is there
 abbrev pub StandHere : Modules → Stand → Type 0
@@ -97,7 +98,7 @@ here_map ms f (x ∷ xs) h = (h x, here_map ms f xs h)
 
 here_flat_map : {A : Type 0} (ms : Modules) (f : A → List Row) (xs : List A) → ((x : A) → AreHere ms (f x)) → AreHere ms (flat_map f xs)
 here_flat_map ms f [] h = tt
-here_flat_map ms f (x ∷ xs) h = here-append ms (f x) (flat_map f xs) (h x) (here_flat_map ms f xs h)
+here_flat_map ms f (x ∷ xs) h = every-append (RowIsHere ms) (f x) (flat_map f xs) (h x) (here_flat_map ms f xs h)
 
 module _ (net : Net) where
   abbrev ms : Modules
@@ -140,7 +141,7 @@ module _ (net : Net) where
   here_looped l = by_test Here (loops net) _ _ (λ _. (tt, (tt, tt))) (λ _. tt)
 
   pub here_transmitted : (l : LiveList) → Here (transmitted net l)
-  here_transmitted l = (tt, here-append ms (looped net l) _ (here_looped l) (here_homeward ms ms l (position ms.order Miniport) Success, tt))
+  here_transmitted l = (tt, every-append (RowIsHere ms) (looped net l) _ (here_looped l) (here_homeward ms ms l (position ms.order Miniport) Success, tt))
 
   -- lists on their way home
   here_released : (m : ModuleId) (s : ListStatus) (o : Option LiveList) → Here (released_list net m s o)
@@ -169,7 +170,7 @@ module _ (net : Net) where
 
   here_delivery : (l : LiveList) (keeps : Bool) → Here (delivery_rows net l keeps)
   here_delivery l keeps =
-      here-append ms (delivered net l.list l.frames how.Own net.next.list (takers net l.frames)) _
+      every-append (RowIsHere ms) (delivered net l.list l.frames how.Own net.next.list (takers net l.frames)) _
       (here_delivered l.list l.frames how.Own net.next.list (takers net l.frames)) (here_settled l keeps (last_of (takers net l.frames)))
 
   here_up_at : (f : ℕ) (o : Option Attached) (l : LiveList) (keeps : Bool) → attached f ms.filters ≡ o → Here (up_at_filter net o l keeps)
@@ -197,7 +198,7 @@ module _ (net : Net) where
   here_lent_delivery : (list : ListNo) (frames : List (List ℕ)) → Here (lent_delivery net list frames)
   here_lent_delivery list frames =
       by_test Here (phase_is_running net.phase) _ _
-      (λ _. here-append ms (delivered net list frames how.Lent (net.next.list + 1) (takers net frames)) _ (here_delivered list frames how.Lent (net.next.list + 1) (takers net frames)) (tt, tt))
+      (λ _. every-append (RowIsHere ms) (delivered net list frames how.Lent (net.next.list + 1) (takers net frames)) _ (here_delivered list frames how.Lent (net.next.list + 1) (takers net frames)) (tt, tt))
       (λ _. (tt, (tt, tt)))
 
   pub here_lent_up : (list : ListNo) (frames : List (List ℕ)) (fs : List ℕ) → Here (lent_up net list frames fs)
