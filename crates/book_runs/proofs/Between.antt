@@ -77,7 +77,7 @@ turned_by {old} {new} {w} {e} {r} k worked s =
       };
       turn = turn;
       told = record { by = refl; what = refl; told = refl };
-      adds = record { adds = a; rows = refl };
+      adds = record { adds = a; rows = refl; book = s.book };
       next = a.next;
       sound = k.book.follows.sound;
       bound = k.book.bound;

@@ -16,14 +16,16 @@ use Rattle.promise_rules.specs.declared.Ending.TheVariants as ending
 use Rattle.promise_rules.specs.Own.{opening_event, opening_after, filters_after, ending_event, ending_after}
 use Rattle.book_lemmas.specs.Turns.{AddsTurn}
 use Rattle.book_lemmas.specs.Views.{BookView}
+use Rattle.book_parts.specs.Events.{IsBook}
 
 abbrev pub asked_of : Turn → Asked
 asked_of turn = record { who = turn.who; event = turn.event }
 
--- the turn was added: it may come next, and the drivers did what its rows say
+-- the turn was added: it may come next, the drivers did what its rows say, and the book stands again
 pub record AddsThis (old new : BookView) (turn : Turn) : Type 0 where
   pub adds : AddsTurn old new (asked_of turn) turn.reply
   pub rows : turn.rows ≡ adds.rows
+  pub book : IsBook new
 
 -- so were some turns, one after the other
 abbrev pub Adds : BookView → BookView → List Turn → Type 0

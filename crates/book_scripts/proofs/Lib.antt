@@ -2,3 +2,4 @@ pub mod Whole
 pub mod Followed
 pub mod Laws
 pub mod Served
+pub mod Seats
