@@ -3,3 +3,4 @@ pub mod Followed
 pub mod Laws
 pub mod Served
 pub mod Seats
+pub mod Places

@@ -22,7 +22,7 @@ equals : (n m : ℕ) → n ≡ m → (n == m) ≡ true
 equals n m e = grind (arith, nat_tests)
 
 -- a fact of each filter and its place
-abbrev EachDriver : ((ℕ × ℕ) → Type 0) → List (ℕ × ℕ) → Type 0
+abbrev pub EachDriver : ((ℕ × ℕ) → Type 0) → List (ℕ × ℕ) → Type 0
 EachDriver P [] = Unit {0}
 EachDriver P (d ∷ ds) = P d × EachDriver P ds
 
@@ -30,7 +30,7 @@ each_implies : (P Q : (ℕ × ℕ) → Type 0) → ((d : ℕ × ℕ) → P d →
 each_implies P Q f [] h = tt
 each_implies P Q f (d ∷ ds) h = (f d h.0, each_implies P Q f ds h.1)
 
-each_of : (P : (ℕ × ℕ) → Type 0) → ((d : ℕ × ℕ) → P d) → (ds : List (ℕ × ℕ)) → EachDriver P ds
+pub each_of : (P : (ℕ × ℕ) → Type 0) → ((d : ℕ × ℕ) → P d) → (ds : List (ℕ × ℕ)) → EachDriver P ds
 each_of P f [] = tt
 each_of P f (d ∷ ds) = (f d, each_of P f ds)
 
@@ -43,7 +43,7 @@ sums_same f g (d ∷ ds) h =
     let other = sum_by-cons g d ds in
     omega (arith, here, rest, one, other)
 
-sums_none : (f : (ℕ × ℕ) → ℕ) (ds : List (ℕ × ℕ)) → EachDriver (λ d. f d ≡ 0) ds → sum_by f ds ≡ 0
+pub sums_none : (f : (ℕ × ℕ) → ℕ) (ds : List (ℕ × ℕ)) → EachDriver (λ d. f d ≡ 0) ds → sum_by f ds ≡ 0
 sums_none f [] h = refl
 sums_none f (d ∷ ds) h =
     let here = h.0 in
@@ -124,7 +124,7 @@ found_once f n q (d ∷ ds) a e = by_number (found_once f n q ds a.1) (d.0 == f)
 abbrev pub at_place : ℕ → (ℕ → ℕ) → (ℕ × ℕ) → ℕ
 at_place place counts d = if d.1 == place then counts d.0 else 0
 
-none_at : (place : ℕ) (counts : ℕ → ℕ) (d : ℕ × ℕ) → counts d.0 ≡ 0 → at_place place counts d ≡ 0
+pub none_at : (place : ℕ) (counts : ℕ → ℕ) (d : ℕ × ℕ) → counts d.0 ≡ 0 → at_place place counts d ≡ 0
 none_at place counts d e = by_test (d.1 == place)
   where
     by_test : (b : Bool) → cond b (counts d.0) 0 ≡ 0

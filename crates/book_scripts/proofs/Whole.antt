@@ -34,7 +34,7 @@ both_true true false e = differ e
 both_true false b e = differ e
 
 -- the turn that was added is the journal's last
-turn_is : (t : Turn) (a b : BookView) (x : AddsThis a b t) → asked_turn (asked_of t) t.reply x.adds.rows ≡ t
+pub turn_is : (t : Turn) (a b : BookView) (x : AddsThis a b t) → asked_turn (asked_of t) t.reply x.adds.rows ≡ t
 turn_is t a b x = ap (asked_turn (asked_of t) t.reply) (sym x.rows)
 
 -- the turns that were added are the journal's last, and the head stays

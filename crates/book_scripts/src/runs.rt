@@ -10,7 +10,7 @@ ghost use Rattle.book_parts.specs.Parts.{view_of};
 ghost use Rattle.book_runs.specs.Runs.{IsBetween, IsInPhase, is_fine};
 ghost use Rattle.book_scripts.specs.Laws.{MeetsLaws};
 ghost use Rattle.stack_rules.specs.Sound.{Sound};
-ghost use Rattle.book_scripts.specs.Served.{DriversServed};
+ghost use Rattle.book_scripts.specs.Served.{DriversServed, FiltersServed};
 ghost use Rattle.book_scripts.specs.Scripts.{MakesOne, MakesEach, RunsWhole, is_asked_call};
 
 use book_parts::BookParts;
@@ -81,6 +81,7 @@ pub fn run_stack<M: MiniportCalls, P: ProtocolCalls, F: FilterCalls>(
     ensures sound { OnOk result (Sound (view_of M.state P.state F.state book.old).tray.head (view_of M.state P.state F.state book.new).tray.turns) }
     ensures served { OnOk result (DriversServed (view_of M.state P.state F.state book.old).tray.head filters.now (view_of M.state P.state F.state book.new).tray.turns (view_of M.state P.state F.state book.old).held (view_of M.state P.state F.state book.new).held) }
     ensures shelved { OnOk result (IsShelved (view_of M.state P.state F.state book.old).tray.net (view_of M.state P.state F.state book.old).tray.turns (view_of M.state P.state F.state book.old).held → IsShelved (view_of M.state P.state F.state book.new).tray.net (view_of M.state P.state F.state book.new).tray.turns (view_of M.state P.state F.state book.new).held) }
+    ensures filters_served { OnOk result (IsShelved (view_of M.state P.state F.state book.old).tray.net (view_of M.state P.state F.state book.old).tray.turns (view_of M.state P.state F.state book.old).held → FiltersServed (view_of M.state P.state F.state book.new).tray.turns (view_of M.state P.state F.state book.old).held.filters (view_of M.state P.state F.state book.new).held.filters) }
 {
     open_stack(book, alloc, filters)?;
     run_calls(book, alloc, calls)?;

@@ -1,6 +1,7 @@
 use Rattle.book_scripts.proofs.Whole.{asked_opened, run_shelved, runs_or_halted, runs_whole}
 use Rattle.book_scripts.proofs.Followed.{followed}
 use Rattle.book_scripts.proofs.Laws.{run_is_sound, run_meets_laws}
+use Rattle.book_scripts.proofs.Places.{run_filters_served}
 use Rattle.book_scripts.proofs.Served.{run_served}
 use Rattle.book_scripts.proofs.runs.run_stack.Goals as goal
 
@@ -34,3 +35,8 @@ returns-clause-served g c =
 pub returns-clause-shelved : goal.returns-clause-shelved
 returns-clause-shelved g c =
     run_shelved _ _ _ _ (runs_whole _ _ _ _ _ _ c.in_ok-open_stack.ensures.opens c.in_ok-run_calls.ensures.made c.in_ok-end_stack.ensures.ends)
+
+pub returns-clause-filters_served : goal.returns-clause-filters_served
+returns-clause-filters_served g c =
+    run_filters_served _ _ _ _ c.requires.fresh c.requires.halted.between
+    (runs_whole _ _ _ _ _ _ c.in_ok-open_stack.ensures.opens c.in_ok-run_calls.ensures.made c.in_ok-end_stack.ensures.ends)
