@@ -9,7 +9,7 @@ use Rattle.driver_choice.specs.Chosen.{Takes, Lacks}
 use Rattle.driver_choice.proofs.Standing.{takes_stand}
 use Rattle.book_lemmas.specs.Views.{HeldView}
 use Rattle.book_opening.specs.Opened.{HandedView, kind_of}
-use Rattle.book_scripts.specs.Served.{AreServed, DriversServed, RunsUnlessRefused}
+use Rattle.book_scripts.specs.Served.{AreServed, DriversServed, FiltersServed, RunsUnlessRefused}
 use Rattle.script_runs.specs.Built.{head_of}
 use Rattle.script_runs.specs.Drivers.{LacksDrivers, LeavesDrivers, ComesBack}
 
@@ -41,10 +41,10 @@ leaves_drivers stacks s stack head handed others miniport protocols same only is
 -- after the run the stack's drivers stand before them, and did what its journal tells
 pub comes_back : (stacks s : List StackSetup) (stack : StackSetup) (head begun : StackHead) (fs : List FilterSetup) (handed others back : HandedView) (old new : HeldView) (turns after : List Turn) → s ≡ stacks → s ≡ stack ∷ [] → head ≡ head_of stack
     → Takes head handed.drivers old.miniport old.protocols others.drivers → others.shelf ≡ [] → begun ≡ head → fs ≡ stack.filters → DriversServed begun fs turns old new → after ≡ turns
-    → back.drivers.miniports ≡ new.miniport ∷ others.drivers.miniports → back.drivers.protocols ≡ new.protocols ++ others.drivers.protocols → back.shelf ≡ new.filters → old.filters ≡ handed.shelf
+    → back.drivers.miniports ≡ new.miniport ∷ others.drivers.miniports → back.drivers.protocols ≡ new.protocols ++ others.drivers.protocols → back.shelf ≡ new.filters → old.filters ≡ handed.shelf → FiltersServed turns old.filters new.filters
     → ComesBack stacks after handed back
 unfolding leaves_drivers
-comes_back stacks s stack head begun fs handed others back old new turns after same only is takes none kept filters served journal miniports protocols shelf_new shelf_old =
+comes_back stacks s stack head begun fs handed others back old new turns after same only is takes none kept filters served journal miniports protocols shelf_new shelf_old filters_did =
     let did : DriversServed (head_of stack) stack.filters after old new =
     subst (λ h. DriversServed h stack.filters after old new) (kept ∙ is) (subst (λ xs. DriversServed begun xs after old new) filters (subst (λ ts. DriversServed begun fs ts old new) (sym journal) served)) in
     record {
@@ -58,4 +58,6 @@ comes_back stacks s stack head begun fs handed others back old new turns after s
       served = did.are;
       ran = did.ran;
       filters = ap (map kind_of) shelf_new ∙ did.kinds ∙ ap (map kind_of) shelf_old;
+      filters_served = subst (λ ts. FiltersServed ts handed.shelf back.shelf) (sym journal)
+          (subst (λ fs. FiltersServed turns fs back.shelf) shelf_old (subst (λ fs. FiltersServed turns old.filters fs) (sym shelf_new) filters_did));
     }

@@ -7,7 +7,7 @@ use Rattle.driver_choice.specs.Parts.{PartsView}
 use Rattle.driver_choice.specs.Chosen.{Takes, Lacks}
 use Rattle.driver_choice.specs.Places.{StandAt}
 use Rattle.book_opening.specs.Opened.{HandedView, kind_of}
-use Rattle.book_scripts.specs.Served.{AreServed, RunsUnlessRefused}
+use Rattle.book_scripts.specs.Served.{AreServed, FiltersServed, RunsUnlessRefused}
 use Rattle.script_runs.specs.Built.{head_of}
 
 -- the drivers are too few for the only stack
@@ -27,8 +27,8 @@ pub record LeavesDrivers (stacks : List StackSetup) (handed : HandedView) (other
 
 -- After a run with this journal the miniport stands before the others, and the protocols of the bindings, in the
 -- order of the bindings, stand before the others; the filters stand where they stood. The drivers that were taken
--- stood at the promised places, and counted and logged what the journal tells; and the stack ran, unless its adapter
--- counted that it refused.
+-- stood at the promised places, and counted and logged what the journal tells; each filter's driver counted the calls
+-- of all filters for which it stood; and the stack ran, unless its adapter counted that it refused.
 pub record ComesBack (stacks : List StackSetup) (turns : List Turn) (handed handed' : HandedView) : Type 0 where
   pub others : HandedView
   pub left : LeavesDrivers stacks handed others
@@ -40,3 +40,4 @@ pub record ComesBack (stacks : List StackSetup) (turns : List Turn) (handed hand
   pub served : AreServed turns left.miniport left.protocols miniport protocols
   pub ran : RunsUnlessRefused (head_of left.stack) left.stack.filters turns left.miniport miniport
   pub filters : map kind_of handed'.shelf ≡ map kind_of handed.shelf
+  pub filters_served : FiltersServed turns handed.shelf handed'.shelf

@@ -50,6 +50,7 @@ returns-in-Ok-run_stack-clause-back g c =
     (only_item c.items.result.now c.stack-item.result c.in-len1.len_at_least c.in-len1.len_below c.stack-item.is) c.in-Ok.ensures c.in-Ok-open.ensures.takes
     (ap (map g.F.FilterCalls.state) c.in-Ok-open.ensures.no_shelf) c.in-Ok-open.ensures.opened.head_is c.items-2.ensures c.in-Ok-run_stack.ensures.served c.close.ensures.turns c.close.ensures.miniports c.close.ensures.protocols
     (ap (λ v. map g.F.FilterCalls.state v.items) c.close.ensures.shelf) (ap (λ v. map g.F.FilterCalls.state v.items) c.in-Ok-open.ensures.filters)
+    (c.in-Ok-run_stack.ensures.filters_served c.in-Ok-open.ensures.opened.shelved)
 
 pub returns-in-Ok-run_stack-clause-enough : goal.returns-in-Ok-run_stack-clause-enough
 returns-in-Ok-run_stack-clause-enough g c =
