@@ -13,11 +13,7 @@ mod moved_data;
 #[cfg(test)]
 mod report_texts;
 #[cfg(test)]
-mod requests;
-#[cfg(test)]
 mod sent_frame;
-#[cfg(test)]
-mod spare_frames;
 #[cfg(test)]
 mod two_pauses;
 

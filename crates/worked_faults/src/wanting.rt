@@ -2,7 +2,7 @@
 use crate::compare::{line_of, wide_sink};
 use ndis_base::OutOfMemory;
 use outside_io::MemorySource;
-use run_tools::{Drivers, replay, run_without_parts};
+use run_tools::{ALL_DRIVERS, Drivers, replay, run_without_parts};
 use std::alloc::Global;
 
 /// The line on no parts at all.
@@ -17,13 +17,14 @@ fn line_without_parts(alloc: Global, script: &[u8]) -> Result<String, OutOfMemor
 fn line_over(
     alloc: Global,
     name: &str,
-    has_miniport: bool,
+    miniports: usize,
     protocols: usize,
     script: &[u8],
 ) -> Result<String, OutOfMemory> {
     let drivers = Drivers {
-        has_miniport,
+        miniports,
         protocols,
+        filters: ALL_DRIVERS.filters,
     };
     let mut sink = wide_sink(alloc)?;
     let status = replay(alloc, drivers, script, &mut sink)?;
@@ -34,10 +35,10 @@ fn line_over(
 /// scripts.
 pub fn lines(alloc: Global, script: &[u8], wide: &[u8]) -> Result<String, OutOfMemory> {
     let mut lines = line_without_parts(alloc, script)?;
-    lines.push_str(line_over(alloc, "no miniport", false, 8, script)?.as_str())?;
-    lines.push_str(line_over(alloc, "no protocol", true, 0, script)?.as_str())?;
-    lines.push_str(line_over(alloc, "one protocol for two bindings", true, 1, wide)?.as_str())?;
-    lines.push_str(line_over(alloc, "one protocol for one binding", true, 1, script)?.as_str())?;
-    lines.push_str(line_over(alloc, "two protocols for two bindings", true, 2, wide)?.as_str())?;
+    lines.push_str(line_over(alloc, "no miniport", 0, 8, script)?.as_str())?;
+    lines.push_str(line_over(alloc, "no protocol", 1, 0, script)?.as_str())?;
+    lines.push_str(line_over(alloc, "one protocol for two bindings", 1, 1, wide)?.as_str())?;
+    lines.push_str(line_over(alloc, "one protocol for one binding", 1, 1, script)?.as_str())?;
+    lines.push_str(line_over(alloc, "two protocols for two bindings", 1, 2, wide)?.as_str())?;
     Ok(lines)
 }

@@ -1,5 +1,0 @@
-pub mod Counts
-pub mod Tray
-pub mod Miniport
-pub mod Protocol
-pub mod Inside

@@ -1,6 +1,0 @@
-pub mod Splits
-pub mod Numbers
-pub mod Holds
-pub mod Pools
-pub mod Rows
-pub mod Tells

@@ -1,4 +1,0 @@
-pub mod Removal
-pub mod Seen
-pub mod Views
-pub mod Noted

@@ -1,5 +1,0 @@
-pub mod Pauses
-pub mod Drains
-pub mod Ends
-pub mod Written
-pub mod Endings

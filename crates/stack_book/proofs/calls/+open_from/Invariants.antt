@@ -1,5 +1,0 @@
-use Rattle.std.proofs.Common.{◌-◌, length}
-use Rattle.stack_book.proofs.calls.+open_from.Given as goal
-
-abbrev pub decreases-open_from : goal.decreases-open_from
-decreases-open_from g l = length l.protocols.now.items - l.from
