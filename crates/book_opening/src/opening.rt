@@ -21,6 +21,7 @@ const MAX_FRAME: usize = 1518;
 
 /// The drivers that a stack may take: miniports, protocols, and filters on the shelf, each in an order of
 /// the caller's.
+#[derive(Drop)]
 pub struct StackDrivers<M, P, F> {
     pub miniports: Vec<M>,
     pub protocols: Vec<P>,
