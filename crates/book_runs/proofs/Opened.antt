@@ -10,74 +10,20 @@ use Rattle.journal_types.specs.declared.Refusal.TheVariants as refusal
 use Rattle.journal_types.specs.declared.Reply.{Reply}
 use Rattle.journal_types.specs.declared.Reply.TheVariants as reply
 use Rattle.script_types.specs.declared.FilterSetup.{FilterSetup}
-use Rattle.flat_journal.specs.declared.types.FlatReply.{FlatReply}
-use Rattle.flat_journal.specs.Payloads.{Payloads}
-use Rattle.flat_journal.specs.Shown.{reply_of}
 use Rattle.promise_rules.specs.declared.Opening.{Opening}
 use Rattle.promise_rules.specs.declared.Opening.TheVariants.{Initialising, Inserting, Opened}
 use Rattle.promise_rules.specs.Own.{opening_after}
 use Rattle.stack_rules.specs.Net.{Net, seen}
-use Rattle.run_laws.specs.Opening.{restart_to_go, is_rewire, Initializes, Restarts}
-use Rattle.run_laws.specs.Turns.{ChangesNothing, GoesOn, LeadsTo}
-use Rattle.run_laws.proofs.Opening.{initializes, restarts, rewires}
+use Rattle.run_laws.specs.Opening.{is_rewire}
+use Rattle.run_laws.specs.Turns.{ChangesNothing, LeadsTo}
+use Rattle.run_laws.proofs.Opening.{initializes, rewires}
 use Rattle.driver_views.specs.States.{IsRisen}
 use Rattle.book_lemmas.specs.Shelves.{Balks}
 use Rattle.book_lemmas.specs.Views.{BookView}
-use Rattle.book_runs.specs.Adds.{AddsTurns, OpensTo, IsOne, is_refused}
-use Rattle.book_runs.specs.Runs.{IsBetween, IsInPhase, IsRestarting, IsAnswer, Turned, RestartsOnce, RestartsAll, InsertsOne, InsertsEach, OpensStack, restart_leads, is_inserted}
-use Rattle.book_runs.proofs.Added.{one_of, found_yes, found_no, none_added, opens_by, opens_then}
-use Rattle.book_runs.proofs.Pumped.{net_before, phase_after, same_after, less_after}
-
-next_not_running : reply.Next ≢ reply.Running
-next_not_running e = cc
-
-no_true : true ≡ false → ⊥
-no_true e = cc
-
-no_false : false ≡ true → ⊥
-no_false e = cc
-
-pub restarted_by : {old new : BookView} (attached : ℕ) (answer : FlatReply) (done : Bool) (p : Payloads) → IsRestarting old → Turned old new who.Own event.RestartNext (reply_of p answer)
-    → IsAnswer reply.Running answer done → RestartsOnce attached done old new
-restarted_by {old} {new} attached answer done p at t a = by_law (restarts old.tray.head old.tray.turns t.turn t.sound t.bound t.next t.told.what (before at.phase_is))
-  where
-    before : (old.tray.net.phase ≡ phase.Paused) ⊎ (old.tray.net.phase ≡ phase.Restarting) → ((net_before old).phase ≡ phase.Paused) ⊎ ((net_before old).phase ≡ phase.Restarting)
-    before (inl is) = inl (sym (ap (λ (n : Net). n.phase) t.before) ∙ is)
-    before (inr is) = inr (sym (ap (λ (n : Net). n.phase) t.before) ∙ is)
-
-    added : AddsTurns (OpensTo (Inserting attached) [] (opening_after (Inserting attached) [] (reply_of p answer)) []) old new
-    added = opens_by (Inserting attached) [] event.RestartNext (reply_of p answer) refl (one_of t)
-
-    by_law : LeadsTo (net_before old) t.turn reply.Running phase.Running ⊎ GoesOn (net_before old) t.turn reply.Next phase.Restarting restart_to_go → RestartsOnce attached done old new
-    by_law (inl l) =
-        let told : reply_of p answer ≡ reply.Running = sym t.told.told ∙ l.reply in
-        let yes : done ≡ true = found_yes reply.Running answer done p a told in
-        let over : RestartsOnce attached true old new = record {
-          between = t.between;
-          running = λ _. phase_after t l.phase;
-          goes_on = λ e. absurd (no_true e);
-          fewer = λ e. absurd (no_true e);
-          added = subst (λ r. AddsTurns (OpensTo (Inserting attached) [] (opening_after (Inserting attached) [] r) []) old new) told added;
-        } in
-        subst (λ b. RestartsOnce attached b old new) (sym yes) over
-    by_law (inr g) =
-        let told : reply_of p answer ≡ reply.Next = sym t.told.told ∙ g.leads.reply in
-        let no : done ≡ false = found_no reply.Running answer done p a (λ is. next_not_running (sym told ∙ is)) in
-        let more : RestartsOnce attached false old new = record {
-          between = t.between;
-          running = λ e. absurd (no_false e);
-          goes_on = λ _. record { between = t.between; phase_is = inr (phase_after t g.leads.phase) };
-          fewer = λ _. less_after restart_to_go t g.less;
-          added = subst (λ r. AddsTurns (OpensTo (Inserting attached) [] (opening_after (Inserting attached) [] r) []) old new) told added;
-        } in
-        subst (λ b. RestartsOnce attached b old new) (sym no) more
-
--- the steps of the loop
-pub restarts_to : {a b c : BookView} (attached : ℕ) (done x : Bool) → done ≡ x → AddsTurns (OpensTo (Inserting attached) [] (Inserting attached) []) a b
-    → AddsTurns (OpensTo (Inserting attached) [] (restart_leads attached done) []) b c → AddsTurns (OpensTo (Inserting attached) [] (restart_leads attached x) []) a c
-restarts_to {a} {b} {c} attached done x is p q =
-    opens_then (Inserting attached) [] (Inserting attached) [] (restart_leads attached x) [] p
-    (subst (λ y. AddsTurns (OpensTo (Inserting attached) [] (restart_leads attached y) []) b c) is q)
+use Rattle.book_runs.specs.Adds.{AddsTurns, OpensTo, is_refused, opening_asks, opening_goes}
+use Rattle.book_runs.specs.Runs.{IsInPhase, Turned, RestartsAll, InsertsOne, InsertsEach, OpensStack, is_inserted}
+use Rattle.book_runs.proofs.Added.{one_of, none_added, leads_until, opens_by, opens_then}
+use Rattle.book_runs.proofs.Pumped.{net_before, phase_after, same_after}
 
 pub inserted_to : (attached : ℕ) (f : FilterSetup) (fs : List FilterSetup) (r : Reply) → opening_after (Inserting attached) (f ∷ fs) r ≡ Inserting (cond (is_inserted r) (attached + 1) attached)
 inserted_to attached f fs (reply.Inserted filter) = refl
@@ -94,8 +40,7 @@ inserted_one : {old new : BookView} (attached now : ℕ) (f : FilterSetup) (r : 
 inserted_one {old} {new} attached now f r at t is = record {
   now = insert_phase at t;
   near = subst (λ n. n ≤ attached + 1) (sym is) (at_most (is_inserted r));
-  added = λ fs. subst (λ o. AddsTurns (OpensTo (Inserting attached) (f ∷ fs) o fs) old new) (inserted_to attached f fs r ∙ ap Inserting (sym is))
-      (opens_by (Inserting attached) (f ∷ fs) (event.Insert f.kind (attached + 1) f.setup) r refl (one_of t));
+  added = λ fs. opens_by (Inserting attached) (f ∷ fs) (Inserting now) (event.Insert f.kind (attached + 1) f.setup) r refl (inserted_to attached f fs r ∙ ap Inserting (sym is)) (one_of t);
 }
   where
     at_most : (b : Bool) → cond b (attached + 1) attached ≤ attached + 1
@@ -126,7 +71,7 @@ inserts_all {old} {mid} {new} attached now all s f some is o i = subst (λ fs. I
 
 pub inserts_none : {old : BookView} (attached : ℕ) (s : List FilterSetup) → length s < 1 → IsInPhase old phase.Paused → InsertsEach attached s attached old old
 inserts_none {old} attached (f ∷ fs) none at = absurd (omega arith)
-inserts_none {old} attached [] none at = record { now = at; most = omega arith; added = none_added (OpensTo (Inserting attached) [] (Inserting attached) []) old (refl, refl) }
+inserts_none {old} attached [] none at = record { now = at; most = omega arith; added = none_added (OpensTo (Inserting attached) [] (Inserting attached) []) old refl }
 
 -- the adapter refused: the opening stops there
 ok_not_refused : is_refused reply.Ok ≡ true → ⊥
@@ -148,7 +93,7 @@ refused_opens {old} {new} filters r at t refused = by_law (initializes old.tray.
           between = t.between;
           ran = inr (ap (λ (n : Net). n.phase) (same_after t c.same) ∙ at.phase_is, counted_refusal t c.reply);
           left = filters;
-          added = subst (λ q. AddsTurns (OpensTo Initialising filters (opening_after Initialising filters q) filters) old new) told (opens_by Initialising filters event.Initialize r refl (one_of t));
+          added = opens_by Initialising filters Opened event.Initialize r refl (ap (opening_after Initialising filters) told) (one_of t);
         }
 
 -- it is initialised
@@ -167,15 +112,16 @@ initialized_by {old} {new} filters r at t accepted = by_law (initializes old.tra
         let told : r ≡ reply.Ok = sym t.told.told ∙ l.reply in
         record {
           now = record { between = t.between; phase_is = phase_after t l.phase };
-          added = subst (λ q. AddsTurns (OpensTo Initialising filters (opening_after Initialising filters q) filters) old new) told (opens_by Initialising filters event.Initialize r refl (one_of t));
+          added = opens_by Initialising filters (Inserting 0) event.Initialize r refl (ap (opening_after Initialising filters) told) (one_of t);
         }
     by_law (inr c) = absurd (refused_is (ap is_refused (sym (sym t.told.told ∙ c.reply)) ∙ accepted))
 
 -- the opening in its three parts
-pub opens_in_all : {a b c d : BookView} (filters : List FilterSetup) (attached : ℕ) → IsInitialized filters a b → InsertsEach 0 filters attached b c → RestartsAll attached c d → OpensStack filters a d
+pub opens_in_all : {a b c d : BookView} (filters : List FilterSetup) (attached : ℕ) → IsInitialized filters a b → InsertsEach 0 filters attached b c → RestartsAll who.Own c d → OpensStack filters a d
 opens_in_all filters attached i j r = record {
   between = r.now.between;
   ran = inl r.now.phase_is;
   left = [];
-  added = opens_then Initialising filters (Inserting 0) filters Opened [] i.added (opens_then (Inserting 0) filters (Inserting attached) [] Opened [] j.added r.added);
+  added = opens_then Initialising filters (Inserting 0) filters Opened [] i.added (opens_then (Inserting 0) filters (Inserting attached) [] Opened [] j.added
+      (leads_until who.Own opening_asks opening_goes (Inserting attached, []) (Opened, []) event.RestartNext reply.Next reply.Running refl refl refl r.added));
 }

@@ -1,4 +1,4 @@
--- Pumps, and the turns of calls.
+-- Pumps, and what a turn leads to.
 use Rattle.std.proofs.Common.{◌≡◌, ◌≢◌, ◌⊎◌, inl, inr, ◌<◌, ℕ, Bool, true, false, refl, sym, ap, ◌∙◌, subst}
 use Rattle.ndis_base.specs.declared.Phase.{Phase}
 use Rattle.ndis_base.specs.declared.Who.{Who}
@@ -11,15 +11,13 @@ use Rattle.flat_journal.specs.Payloads.{Payloads}
 use Rattle.flat_journal.specs.Shown.{reply_of}
 use Rattle.stack_rules.specs.Net.{Net, seen, after_turn}
 use Rattle.stack_rules.specs.Work.{work}
-use Rattle.run_laws.specs.Calls.{is_call}
 use Rattle.run_laws.specs.Pumping.{Pumps}
 use Rattle.run_laws.specs.Turns.{ChangesNothing, GoesOn}
-use Rattle.run_laws.proofs.Calls.{stays}
 use Rattle.run_laws.proofs.Pumping.{pumps}
 use Rattle.book_lemmas.specs.Views.{BookView}
 use Rattle.book_runs.specs.Adds.{AddsTurns, IsOne, pump_reply}
-use Rattle.book_runs.specs.Runs.{IsBetween, IsAnswer, Turned, Pumped, MayCall}
-use Rattle.book_runs.proofs.Added.{one_of, as_kind, found_yes, found_no}
+use Rattle.book_runs.specs.Runs.{IsAnswer, Turned, Pumped}
+use Rattle.book_runs.proofs.Added.{one_of, found_yes, found_no}
 
 -- the state before a turn, and after it
 abbrev pub net_before : BookView → Net
@@ -70,16 +68,3 @@ pumped_by {old} {new} w answer moved p t a = by_law (pumps old.tray.head old.tra
           added = subst (λ r. AddsTurns (IsOne w event.Pump r) old new) told (one_of t);
         } in
         subst (λ b. Pumped w b old new) (sym no) done
-
-call_is : (e : Event) → MayCall e → is_call e ≡ true
-call_is (event.Send binding cancel frames) m = refl
-call_is event.Transmit m = refl
-call_is event.Pump m = refl
-call_is event.Drain m = refl
-call_is _ m = absurd m
-
--- a call leaves the phase
-pub call_phase : {old new : BookView} {w : Who} {e : Event} {r : Reply} → MayCall e → Turned old new w e r → new.tray.net.phase ≡ old.tray.net.phase
-call_phase {old} {new} {w} {e} m t =
-    let still = stays old.tray.head old.tray.turns t.turn t.sound t.bound t.next (ap is_call t.told.what ∙ call_is e m) in
-    phase_after t still.phase ∙ sym (ap (λ (n : Net). n.phase) t.before)

@@ -16,6 +16,7 @@ use Rattle.script_types.specs.declared.FilterSetup.{FilterSetup}
 use Rattle.promise_rules.specs.declared.Opening.{Opening}
 use Rattle.promise_rules.specs.declared.Opening.TheVariants.{Initialising, Inserting, Opened}
 use Rattle.promise_rules.specs.declared.Ending.TheVariants as ending
+use Rattle.promise_rules.specs.declared.Tail.{Tail}
 use Rattle.promise_rules.specs.Own.{ending_of}
 use Rattle.stack_rules.specs.Conditions.{is_setup}
 use Rattle.stack_rules.specs.Net.{seen, after_turn}
@@ -29,7 +30,7 @@ use Rattle.run_laws.specs.Pausing.{pause_to_go}
 use Rattle.driver_views.specs.States.{IsRisen}
 use Rattle.book_lemmas.specs.Views.{BookView}
 use Rattle.book_parts.specs.Events.{IsBook, IsIdle}
-use Rattle.book_runs.specs.Adds.{AddsThis, AddsTurns, Told, IsOne, ArePumps, IsCall, OpensTo, EndsTo, pump_reply, pause_leads}
+use Rattle.book_runs.specs.Adds.{AddsThis, AddsTurns, Told, IsOne, ArePauses, ArePausing, ArePumps, AreRestarts, IsCall, IsTail, OpensTo, EndsTo, pump_reply, restart_reply}
 
 -- between two turns of a run: the book stands, no turn is under way, the miniport isn't virtual, and so far nobody asked a
 -- request, told a status or took a message
@@ -70,48 +71,43 @@ pub record PumpedAll (asker : Who) (old new : BookView) : Type 0 where
   pub phase_is : new.tray.net.phase ≡ old.tray.net.phase
   pub added : AddsTurns (ArePumps asker) old new
 
--- the phase after a step of a pause, and of a restart
+-- the phase after a step of a pause
 abbrev pub pause_phase : Bool → Phase
 pause_phase true = phase.Paused
 pause_phase false = phase.Pausing
 
 -- a drain of a stack that pauses: something moved
-pub record Drained (old new : BookView) : Type 0 where
+pub record Drained (asker : Who) (old new : BookView) : Type 0 where
   pub now : IsInPhase new phase.Pausing
   pub fewer : pause_to_go new.tray.net < pause_to_go old.tray.net
-  pub added : AddsTurns (EndsTo ending.Draining ending.Pausing) old new
+  pub added : AddsTurns (IsOne asker event.Drain reply.Moved) old new
 
 -- a step of a pause: whether the stack is Paused
-pub record PausesOnce (done : Bool) (old new : BookView) : Type 0 where
+pub record PausesOnce (asker : Who) (done : Bool) (old new : BookView) : Type 0 where
   pub now : IsInPhase new (pause_phase done)
   pub fewer : done ≡ false → pause_to_go new.tray.net < pause_to_go old.tray.net
-  pub added : AddsTurns (EndsTo ending.Pausing (pause_leads done)) old new
+  pub added : AddsTurns (ArePausing asker done) old new
 
-pub record PausesAll (old new : BookView) : Type 0 where
+pub record PausesAll (asker : Who) (old new : BookView) : Type 0 where
   pub now : IsInPhase new phase.Paused
-  pub added : AddsTurns (EndsTo ending.Pausing ending.PumpingLast) old new
+  pub added : AddsTurns (ArePauses asker) old new
 
 -- between two turns of a restart
 pub record IsRestarting (v : BookView) : Type 0 where
   pub between : IsBetween v
   pub phase_is : (v.tray.net.phase ≡ phase.Paused) ⊎ (v.tray.net.phase ≡ phase.Restarting)
 
--- where a step of a restart leads the opening
-abbrev pub restart_leads : ℕ → Bool → Opening
-restart_leads attached true = Opened
-restart_leads attached false = Inserting attached
-
 -- a step of a restart: whether the stack runs
-pub record RestartsOnce (attached : ℕ) (done : Bool) (old new : BookView) : Type 0 where
+pub record RestartsOnce (asker : Who) (done : Bool) (old new : BookView) : Type 0 where
   pub between : IsBetween new
   pub running : done ≡ true → new.tray.net.phase ≡ phase.Running
   pub goes_on : done ≡ false → IsRestarting new
   pub fewer : done ≡ false → restart_to_go new.tray.net < restart_to_go old.tray.net
-  pub added : AddsTurns (OpensTo (Inserting attached) [] (restart_leads attached done) []) old new
+  pub added : AddsTurns (IsOne asker event.RestartNext (restart_reply done)) old new
 
-pub record RestartsAll (attached : ℕ) (old new : BookView) : Type 0 where
+pub record RestartsAll (asker : Who) (old new : BookView) : Type 0 where
   pub now : IsInPhase new phase.Running
-  pub added : AddsTurns (OpensTo (Inserting attached) [] Opened []) old new
+  pub added : AddsTurns (AreRestarts asker) old new
 
 -- a filter was asked for below those that are attached, so many before it and so many then
 pub record InsertsOne (before : ℕ) (filter : FilterSetup) (attached : ℕ) (old new : BookView) : Type 0 where
@@ -132,10 +128,35 @@ pub record OpensStack (filters : List FilterSetup) (old new : BookView) : Type 0
   pub left : List FilterSetup
   pub added : AddsTurns (OpensTo Initialising filters Opened left) old new
 
+-- what holds after a step of a pause that is answered so: it is refused or over, or the stack pauses; and where it waits
+-- something is left
+abbrev pub PausesSo : Reply → BookView → Type 0
+PausesSo (reply.Refused cause) v = Unit {0}
+PausesSo reply.Paused v = Unit {0}
+PausesSo (reply.Waiting lists) v = IsInPhase v phase.Pausing × (0 < length v.tray.net.things)
+PausesSo _ v = IsInPhase v phase.Pausing
+
+-- and after a step of a restart: it is refused or over, or the stack restarts
+abbrev pub RestartsSo : Reply → BookView → Type 0
+RestartsSo (reply.Refused cause) v = Unit {0}
+RestartsSo reply.Running v = Unit {0}
+RestartsSo _ v = IsRestarting v
+
+-- and after a call
+abbrev pub AnswersSo : Event → Reply → BookView → Type 0
+AnswersSo event.BeginPause told v = PausesSo told v
+AnswersSo event.PauseNext told v = PausesSo told v
+AnswersSo event.RestartNext told v = RestartsSo told v
+AnswersSo _ told v = Unit {0}
+
+-- a tail of a lane's call
+pub record MakesTail (lane : LaneNo) (tail : Tail) (old new : BookView) : Type 0 where
+  pub between : IsBetween new
+  pub added : AddsTurns (IsTail lane tail) old new
+
 -- a call and its tail
 pub record MakesCall (lane : LaneNo) (e : Event) (pump : Bool) (old new : BookView) : Type 0 where
   pub between : IsBetween new
-  pub phase_is : new.tray.net.phase ≡ old.tray.net.phase
   pub added : AddsTurns (IsCall lane e pump) old new
 
 -- a stack was ended
@@ -149,6 +170,12 @@ MayCall (event.Send binding cancel frames) = Unit {0}
 MayCall event.Transmit = Unit {0}
 MayCall event.Pump = Unit {0}
 MayCall event.Drain = Unit {0}
+MayCall event.BeginPause = Unit {0}
+MayCall event.PauseNext = Unit {0}
+MayCall event.RestartNext = Unit {0}
+MayCall (event.Insert kind position setup) = Unit {0}
+MayCall (event.Remove filter) = Unit {0}
+MayCall (event.Replace filter kind setup) = Unit {0}
 MayCall _ = ⊥
 
 -- the set-up of a filter may be asked for

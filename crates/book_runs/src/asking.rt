@@ -16,7 +16,7 @@ use stack_steps::step;
 use std::alloc::Global;
 
 /// Asks an event of the stack.
-fn ask_for<M: MiniportCalls, P: ProtocolCalls, F: FilterCalls>(
+pub(crate) fn ask_for<M: MiniportCalls, P: ProtocolCalls, F: FilterCalls>(
     book: &mut BookParts<M, P, F>,
     alloc: Global,
     asked: &Asked,

@@ -6,6 +6,8 @@ pub mod asking;
 pub mod calls;
 pub mod ending;
 pub mod opening;
+pub mod pausing;
+pub mod restarting;
 
 pub use crate::calls::run_call;
 pub use crate::ending::end_stack;

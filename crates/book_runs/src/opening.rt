@@ -4,10 +4,11 @@ ghost use Rattle.std.specs.List.{list_all};
 ghost use Rattle.ndis_base.specs.declared.Phase.TheVariants as phase;
 ghost use Rattle.journal_types.specs.declared.Event.TheVariants as event;
 ghost use Rattle.book_parts.specs.Parts.{view_of};
-ghost use Rattle.book_runs.specs.Runs.{IsBetween, IsInPhase, IsRestarting, RestartsOnce, RestartsAll, InsertsOne, InsertsEach, OpensStack, is_fine};
+ghost use Rattle.book_runs.specs.Runs.{IsBetween, IsInPhase, InsertsOne, InsertsEach, OpensStack, is_fine};
 
-use crate::answers::{has_inserted, is_refusal, is_running};
+use crate::answers::{has_inserted, is_refusal};
 use crate::asking::ask;
+use crate::restarting::restart_all;
 use book_parts::BookParts;
 use driver_calls::{FilterCalls, MiniportCalls, ProtocolCalls};
 use flat_journal::copied_setup;
@@ -15,34 +16,6 @@ use journal_types::Event;
 use ndis_base::{OutOfMemory, Who};
 use script_types::FilterSetup;
 use std::alloc::Global;
-
-/// One step of a restart: whether the stack runs.
-fn restart_once<M: MiniportCalls, P: ProtocolCalls, F: FilterCalls>(
-    book: &mut BookParts<M, P, F>,
-    alloc: Global,
-    _attached: u8,
-) -> Result<bool, OutOfMemory>
-    requires restarting { IsRestarting (view_of M.state P.state F.state book.old) }
-    ensures between { IsBetween (view_of M.state P.state F.state book.new) }
-    ensures restarts { IfOk result (λ done. RestartsOnce _attached done (view_of M.state P.state F.state book.old) (view_of M.state P.state F.state book.new)) }
-{
-    let reply = ask(book, alloc, Who::Own, Event::RestartNext)?;
-    Ok(is_running(reply))
-}
-
-/// Restarts the stack, position by position from the bottom, until it runs.
-fn restart_all<M: MiniportCalls, P: ProtocolCalls, F: FilterCalls>(
-    book: &mut BookParts<M, P, F>,
-    alloc: Global,
-    attached: u8,
-) -> Result<(), OutOfMemory>
-    requires paused { IsInPhase (view_of M.state P.state F.state book.old) phase.Paused }
-    ensures between { IsBetween (view_of M.state P.state F.state book.new) }
-    ensures restarts { OnOk result (RestartsAll attached (view_of M.state P.state F.state book.old) (view_of M.state P.state F.state book.new)) }
-{
-    while !restart_once(book, alloc, attached)? {}
-    Ok(())
-}
 
 /// The event that inserts a filter below those that are attached.
 fn insert_event(alloc: Global, filter: &FilterSetup, attached: u8) -> Result<Event, OutOfMemory>
@@ -121,7 +94,7 @@ pub fn open_stack<M: MiniportCalls, P: ProtocolCalls, F: FilterCalls>(
     if is_refusal(reply) {
         return Ok(());
     }
-    let attached = insert_each(book, alloc, filters, 0)?;
-    restart_all(book, alloc, attached)?;
+    insert_each(book, alloc, filters, 0)?;
+    restart_all(book, alloc, Who::Own)?;
     Ok(())
 }

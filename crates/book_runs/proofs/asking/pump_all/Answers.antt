@@ -1,5 +1,6 @@
-use Rattle.std.proofs.Common.{rules, refl, ◌∙◌}
-use Rattle.book_runs.proofs.Added.{moves_more, none_added, pumps_end}
+use Rattle.std.proofs.Common.{rules, true, false, refl, ◌∙◌}
+use Rattle.book_runs.specs.Adds.{pump_reply}
+use Rattle.book_runs.proofs.Added.{one_more, one_last, none_added}
 use Rattle.book_runs.proofs.asking.pump_all.Goals as goal
 
 pub loop-init : goal.loop-init
@@ -11,10 +12,10 @@ loop-preserved g c =
     record {
       between = p.between;
       phase = p.phase_is ∙ c.loop.invariant.phase;
-      added = moves_more _ _ (search rules) c.loop.invariant.added p.added;
+      added = one_more _ _ pump_reply _ true (search rules) c.loop.invariant.added p.added;
     }
 
 pub returns-clause-pumped : goal.returns-clause-pumped
 returns-clause-pumped g c =
     let p = c.in_ok-pump_once.ensures.pumped in
-    record { between = p.between; phase_is = p.phase_is ∙ c.loop.invariant.phase; added = pumps_end _ _ (search rules) c.loop.invariant.added p.added }
+    record { between = p.between; phase_is = p.phase_is ∙ c.loop.invariant.phase; added = one_last _ _ pump_reply _ true false (search rules) c.loop.invariant.added p.added }

@@ -1,4 +1,4 @@
-use Rattle.std.proofs.Common.{sym, ◌∙◌}
+use Rattle.std.proofs.Common.{sym}
 use Rattle.book_runs.proofs.Ended.{ends_halted}
 use Rattle.book_runs.proofs.ending.end_stack.Goals as goal
 

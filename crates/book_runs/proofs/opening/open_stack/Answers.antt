@@ -13,4 +13,4 @@ insert_each-requires-clause-paused g c =
 pub returns-clause-opens : goal.returns-clause-opens
 returns-clause-opens g c =
     opens_in_all _ _ (initialized_by _ _ c.requires.halted c.in_ok-reply.ensures.turned (sym (c.is_refusal.ensures c.ask.new.book.tray.payloads) ∙ c.if-is_refusal.false))
-    c.in_ok-attached.ensures.inserts c.in_ok-restart_all.ensures.restarts
+    c.in_ok-insert_each.ensures.inserts c.in_ok-restart_all.ensures.restarts

@@ -1,17 +1,17 @@
 use Rattle.std.proofs.Common.{rules, true, false, refl}
-use Rattle.book_runs.proofs.Added.{none_added}
-use Rattle.book_runs.proofs.Paused.{pauses_to, in_phase}
-use Rattle.book_runs.proofs.ending.pause_all.Goals as goal
+use Rattle.book_runs.proofs.Added.{none_added, steps_then, steps_end}
+use Rattle.book_runs.proofs.Paused.{in_phase}
+use Rattle.book_runs.proofs.pausing.pause_all.Goals as goal
 
 pub loop-init : goal.loop-init
-loop-init g c = record { pausing = c.requires.pausing; added = none_added _ _ refl }
+loop-init g c = record { pausing = c.requires.pausing; added = none_added _ _ tt }
 
 pub loop-preserved : goal.loop-preserved
 loop-preserved g c =
     let p = c.in_ok-pause_once.ensures.pauses in
     record {
       pausing = in_phase _ false (search rules) p.now;
-      added = pauses_to _ false (search rules) c.loop.invariant.added p.added;
+      added = steps_then _ _ false (search rules) refl c.loop.invariant.added p.added;
     }
 
 pub returns-clause-pauses : goal.returns-clause-pauses
@@ -19,5 +19,5 @@ returns-clause-pauses g c =
     let p = c.in_ok-pause_once.ensures.pauses in
     record {
       now = in_phase _ true (search rules) p.now;
-      added = pauses_to _ true (search rules) c.loop.invariant.added p.added;
+      added = steps_end _ _ (search rules) c.loop.invariant.added p.added;
     }
