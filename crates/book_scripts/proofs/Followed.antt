@@ -1,5 +1,5 @@
 -- The turns of a run follow the script.
-use Rattle.std.proofs.Common.{ℕ, ◌≡◌, ◌≢◌, ◌==◌, ◌&&◌, Bool, true, false, List, [], ◌∷◌, ◌++◌, Some, None, not, if◌then◌else◌, All, refl, ap, sym, subst, ◌∙◌, inl, inr, ◌⊎◌, arith, eq-eqb}
+use Rattle.std.proofs.Common.{ℕ, ◌≡◌, ◌≢◌, ◌==◌, ◌&&◌, Bool, true, false, List, [], ◌∷◌, ◌++◌, Option, Some, None, if◌then◌else◌, All, refl, ap, sym, subst, ◌∙◌, inl, inr, ◌⊎◌, arith, eq-eqb}
 use Rattle.std.specs.List.{list_all}
 use Rattle.std.proofs.lemmas.List.{append_assoc}
 use Rattle.std.proofs.lemmas.List.Elements.{All-append, All-cons, All-nil}
@@ -8,9 +8,7 @@ use Rattle.ndis_base.specs.declared.LaneNo.{LaneNo}
 use Rattle.ndis_base.specs.declared.Phase.TheVariants as phase
 use Rattle.ndis_base.specs.declared.Who.TheVariants as who
 use Rattle.journal_types.specs.declared.Event.{Event}
-use Rattle.journal_types.specs.declared.Event.TheVariants as event
 use Rattle.journal_types.specs.declared.Reply.{Reply}
-use Rattle.journal_types.specs.declared.Reply.TheVariants as reply
 use Rattle.journal_types.specs.declared.StackHead.{StackHead}
 use Rattle.journal_types.specs.declared.Turn.{Turn}
 use Rattle.script_types.specs.declared.Call.{Call}
@@ -27,13 +25,13 @@ use Rattle.promise_rules.specs.declared.Ending.{Ending}
 use Rattle.promise_rules.specs.declared.Ending.TheVariants as ending
 use Rattle.promise_rules.specs.declared.Tail.{Tail}
 use Rattle.promise_rules.specs.declared.Tail.TheVariants as tails
-use Rattle.promise_rules.specs.Tails.{next_stack, next_event, tail_after, tail_of, stack_asked, event_asked, unless_refused}
-use Rattle.promise_rules.specs.Own.{opening_after, filters_after, ending_of, ending_after}
+use Rattle.promise_rules.specs.Tails.{next_stack, next_event, tail_after, tail_of, stack_asked, event_asked, pumping_if}
+use Rattle.promise_rules.specs.Own.{opening_after, filters_after, ending_of, ending_event, ending_after}
 use Rattle.promise_rules.specs.Followed.{is_of_lane, next_turn, after_next, link_of, Follows, done, other, called, helped, IsFollowed, IsOpenedAndEnded}
 use Rattle.promise_rules.specs.Followed as promised
 use Rattle.driver_views.specs.States.{IsRisen}
 use Rattle.book_lemmas.specs.Views.{BookView}
-use Rattle.book_runs.specs.Adds.{Told, AreMoves, ArePumps, IsTail, IsCall, OpensTo, EndsTo, is_refused}
+use Rattle.book_runs.specs.Adds.{IsTail, IsCall, OpensTo, EndsTo, TurnsLead, asked_here, opening_asks, opening_goes, tail_asks, tail_of_call}
 use Rattle.book_scripts.specs.Scripts.{Makes, MakesAll, IsWhole, RunsWhole, is_asked_call, is_asked_event}
 use Rattle.book_scripts.specs.Served.{RunsUnlessRefused}
 use Rattle.book_scripts.proofs.Whole.{both_true}
@@ -71,13 +69,9 @@ rest_is : (lane : ℕ) (front : List Turn) (t : Turn) (ys : List Turn) → NoneO
 rest_is lane front t ys n e = left lane front (t ∷ ys) n ∙ ap (λ b. if b then ys else after_next lane ys) e
 
 -- the stack's own turns are of no lane
-own_opens : (a : Opening) (fs : List FilterSetup) (b : Opening) (gs : List FilterSetup) (lane : ℕ) (xs : List Turn) → OpensTo a fs b gs xs → NoneOf lane xs
-own_opens a fs b gs lane [] p = tt
-own_opens a fs b gs lane (x ∷ xs) p = (ap (is_of_lane lane) p.0, own_opens (opening_after a fs x.reply) (filters_after a fs) b gs lane xs p.2)
-
-own_ends : (a b : Ending) (lane : ℕ) (xs : List Turn) → EndsTo a b xs → NoneOf lane xs
-own_ends a b lane [] p = tt
-own_ends a b lane (x ∷ xs) p = (ap (is_of_lane lane) p.0, own_ends (ending_after a x.reply) b lane xs p.2)
+own_turns : {S : Type 0} (asks : S → Option Event) (goes : S → Reply → S) (a b : S) (lane : ℕ) (xs : List Turn) → TurnsLead who.Own asks goes a b xs → NoneOf lane xs
+own_turns asks goes a b lane [] p = tt
+own_turns asks goes a b lane (x ∷ xs) p = (ap (is_of_lane lane) p.0, own_turns asks goes (goes a x.reply) b lane xs p.2)
 
 -- the turns are asked by a lane, as its calls or as their tails
 abbrev pub IsBy : LaneNo → Turn → Type 0
@@ -87,23 +81,12 @@ abbrev pub AllBy : LaneNo → List Turn → Type 0
 AllBy lane [] = Unit {0}
 AllBy lane (t ∷ ts) = IsBy lane t × AllBy lane ts
 
-by_append : (lane : LaneNo) (xs ys : List Turn) → AllBy lane xs → AllBy lane ys → AllBy lane (xs ++ ys)
-by_append lane [] ys p q = q
-by_append lane (x ∷ xs) ys p q = (p.0, by_append lane xs ys p.1 q)
-
-by_moves : (lane : LaneNo) (xs : List Turn) → AreMoves (who.Help lane) xs → AllBy lane xs
-by_moves lane [] m = tt
-by_moves lane (x ∷ xs) m = (inr m.0.by, by_moves lane xs m.1)
-
-by_pumps : (lane : LaneNo) (xs : List Turn) → ArePumps (who.Help lane) xs → AllBy lane xs
-by_pumps lane xs p = subst (AllBy lane) (sym p.all) (by_append lane p.moves (p.last ∷ []) (by_moves lane p.moves p.moved) (inr p.idle.by, tt))
-
-by_tail : (lane : LaneNo) (b : Bool) (xs : List Turn) → IsTail lane b xs → AllBy lane xs
-by_tail lane true xs p = by_pumps lane xs p
-by_tail lane false xs p = subst (AllBy lane) (sym p) tt
+by_tail : {S : Type 0} (asks : S → Option Event) (goes : S → Reply → S) (a b : S) (lane : LaneNo) (xs : List Turn) → TurnsLead (who.Help lane) asks goes a b xs → AllBy lane xs
+by_tail asks goes a b lane [] p = tt
+by_tail asks goes a b lane (x ∷ xs) p = (inr p.0, by_tail asks goes (goes a x.reply) b lane xs p.2)
 
 by_call : (lane : LaneNo) (e : Event) (pump : Bool) (xs : List Turn) → IsCall lane e pump xs → AllBy lane xs
-by_call lane e pump xs c = subst (AllBy lane) (sym c.all) (inl c.by, by_tail lane (pump && not (is_refused c.call.reply)) c.tail c.follows)
+by_call lane e pump xs c = subst (AllBy lane) (sym c.all) (inl c.by, by_tail tail_asks tail_after (pumping_if pump (tail_of_call e c.call.reply)) tails.Ended lane c.tail c.follows)
 
 of_lane : (lane : LaneNo) (l : ℕ) (t : Turn) → IsBy lane t → is_of_lane l t.who ≡ (lane.0 == l)
 of_lane lane l t (inl is) = ap (is_of_lane l) is
@@ -135,37 +118,47 @@ help_step stacks lane cs tail t rest at asks by f =
     helped cs tail ((t ∷ rest) ∷ []) 0 t at (next_is lane.0 [] t rest tt mine) by asks
     (subst (λ (r : List Turn). Follows stacks lane cs (tail_after tail t.reply) (r ∷ [])) (sym (rest_is lane.0 [] t rest tt mine)) f)
 
-follows_pumps : (stacks : List StackSetup) (lane : LaneNo) (cs : List Call) (moves : List Turn) (last : Turn) (rest : List Turn) → AreMoves (who.Help lane) moves → Told (who.Help lane) event.Pump reply.Idle last
-    → Follows stacks lane cs tails.Ended (rest ∷ []) → Follows stacks lane cs (tails.Pumping 0) (((moves ++ last ∷ []) ++ rest) ∷ [])
-follows_pumps stacks lane cs [] last rest m i f =
-    help_step stacks lane cs (tails.Pumping 0) last rest refl (ap Some (sym i.what)) i.by
-    (subst (λ r. Follows stacks lane cs (tail_after (tails.Pumping 0) r) (rest ∷ [])) (sym i.told) f)
-follows_pumps stacks lane cs (x ∷ xs) last rest m i f =
-    help_step stacks lane cs (tails.Pumping 0) x ((xs ++ last ∷ []) ++ rest) refl (ap Some (sym m.0.what)) m.0.by
-    (subst (λ r. Follows stacks lane cs (tail_after (tails.Pumping 0) r) (((xs ++ last ∷ []) ++ rest) ∷ [])) (sym m.0.told) (follows_pumps stacks lane cs xs last rest m.1 i f))
+zero_stack : (n : ℕ) → (n == 0) ≡ true → n ≡ 0
+zero_stack n e = grind (arith, nat_tests, e)
 
-abbrev pub tail_if : Bool → Tail
-tail_if true = tails.Pumping 0
-tail_if false = tails.Ended
+-- what is asked of the only stack is asked of stack 0
+here : (stack : Option ℕ) (asked : Option Event) (e : Event) → asked_here stack asked ≡ Some e → (stack ≡ Some 0) × (asked ≡ Some e)
+here None asked e is = absurd (nothing is)
+  where
+    nothing : None ≡ Some e → ⊥
+    nothing is = cc
+here (Some s) asked e is = by_test (s == 0) refl
+  where
+    nothing : None ≡ Some e → ⊥
+    nothing is = cc
 
-follows_tail : (stacks : List StackSetup) (lane : LaneNo) (cs : List Call) (b : Bool) (tail rest : List Turn) → IsTail lane b tail → Follows stacks lane cs tails.Ended (rest ∷ []) → Follows stacks lane cs (tail_if b) ((tail ++ rest) ∷ [])
-follows_tail stacks lane cs true tail rest p f = subst (λ (ts : List Turn). Follows stacks lane cs (tails.Pumping 0) ((ts ++ rest) ∷ [])) (sym p.all) (follows_pumps stacks lane cs p.moves p.last rest p.moved p.idle f)
-follows_tail stacks lane cs false tail rest p f = subst (λ (ts : List Turn). Follows stacks lane cs tails.Ended ((ts ++ rest) ∷ [])) (sym p) f
+    by_test : (b : Bool) → (s == 0) ≡ b → (Some s ≡ Some 0) × (asked ≡ Some e)
+    by_test true at = (ap Some (zero_stack s at), ap (λ b. if b then asked else None) (sym at) ∙ is)
+    by_test false at = absurd (nothing (ap (λ b. if b then asked else None) (sym at) ∙ is))
 
-unless : (r : Reply) → unless_refused (tails.Pumping 0) r ≡ tail_if (not (is_refused r))
-unless (reply.Refused cause) = refl
-unless _ = refl
+-- a tail's turns follow it
+follows_tail : (stacks : List StackSetup) (lane : LaneNo) (cs : List Call) (tail : Tail) (xs rest : List Turn) → IsTail lane tail xs → Follows stacks lane cs tails.Ended (rest ∷ []) → Follows stacks lane cs tail ((xs ++ rest) ∷ [])
+follows_tail stacks lane cs tail [] rest p f = subst (λ s. Follows stacks lane cs s (rest ∷ [])) (sym p) f
+follows_tail stacks lane cs tail (x ∷ xs) rest p f =
+    let at = here (next_stack tail) (next_event tail) x.event p.1 in
+    help_step stacks lane cs tail x (xs ++ rest) at.0 at.1 p.0 (follows_tail stacks lane cs (tail_after tail x.reply) xs rest p.2 f)
 
-pumps : (p : Bool) (r : Reply) → (if p then unless_refused (tails.Pumping 0) r else tails.Ended) ≡ tail_if (p && not (is_refused r))
-pumps true r = unless r
-pumps false r = refl
+no_tail : (p : Bool) → tails.Ended ≡ pumping_if p tails.Ended
+no_tail true = refl
+no_tail false = refl
 
 -- the tail of a call that can be made
-tail_is : (head : StackHead) (link : Link) (k : CallKind) (p : Bool) (r : Reply) → is_asked_event head (event_of k) ≡ true → tail_of link 0 p k r ≡ tail_if (p && not (is_refused r))
-tail_is head link (ask.Send binding cancel frames) p r h = pumps p r
-tail_is head link ask.Transmit p r h = pumps p r
-tail_is head link ask.Pump p r h = pumps p r
-tail_is head link ask.Drain p r h = pumps p r
+tail_is : (head : StackHead) (link : Link) (k : CallKind) (p : Bool) (r : Reply) → is_asked_event head (event_of k) ≡ true → tail_of link 0 p k r ≡ pumping_if p (tail_of_call (event_asked link k) r)
+tail_is head link (ask.Send binding cancel frames) p r h = refl
+tail_is head link ask.Transmit p r h = refl
+tail_is head link ask.Pump p r h = refl
+tail_is head link ask.Drain p r h = refl
+tail_is head link ask.BeginPause p r h = refl
+tail_is head link ask.PauseNext p r h = refl
+tail_is head link ask.RestartNext p r h = refl
+tail_is head link (ask.Insert position kind setup) p r h = no_tail p
+tail_is head link (ask.Remove filter) p r h = no_tail p
+tail_is head link (ask.Replace filter kind setup) p r h = no_tail p
 tail_is head link _ p r h = differ h
 
 asks_event : (head : StackHead) (link : Link) (k : CallKind) (e : Event) → is_asked_event head (event_of k) ≡ true → event_of k ≡ Some e → e ≡ event_asked link k
@@ -173,6 +166,12 @@ asks_event head link (ask.Send binding cancel frames) e h is = cc
 asks_event head link ask.Transmit e h is = cc
 asks_event head link ask.Pump e h is = cc
 asks_event head link ask.Drain e h is = cc
+asks_event head link ask.BeginPause e h is = cc
+asks_event head link ask.PauseNext e h is = cc
+asks_event head link ask.RestartNext e h is = cc
+asks_event head link (ask.Insert position kind setup) e h is = cc
+asks_event head link (ask.Remove filter) e h is = cc
+asks_event head link (ask.Replace filter kind setup) e h is = cc
 asks_event head link _ e h is = differ h
 
 asks_stack : (head : StackHead) (link : Link) (s : ℕ) (k : CallKind) → is_asked_event head (event_of k) ≡ true → stack_asked link s k ≡ s
@@ -180,6 +179,12 @@ asks_stack head link s (ask.Send binding cancel frames) h = refl
 asks_stack head link s ask.Transmit h = refl
 asks_stack head link s ask.Pump h = refl
 asks_stack head link s ask.Drain h = refl
+asks_stack head link s ask.BeginPause h = refl
+asks_stack head link s ask.PauseNext h = refl
+asks_stack head link s ask.RestartNext h = refl
+asks_stack head link s (ask.Insert position kind setup) h = refl
+asks_stack head link s (ask.Remove filter) h = refl
+asks_stack head link s (ask.Replace filter kind setup) h = refl
 asks_stack head link s _ h = differ h
 
 same_lane : (a b : LaneNo) → (a.0 == b.0) ≡ true → a ≡ b
@@ -196,24 +201,25 @@ follows_call : (stacks : List StackSetup) (head : StackHead) (lane : LaneNo) (c 
 follows_call stacks head lane c cs front first rest zero built same n m f =
     let call : Turn = m.is.call in
     let link : Link = link_of stacks c.stack in
-    let b : Bool = c.pump && not (is_refused call.reply) in
+    let then_tail : Tail = pumping_if c.pump (tail_of_call m.event call.reply) in
     let later : List Turn = m.is.tail ++ rest in
     let all : List Turn = front ++ call ∷ later in
     let by : call.who ≡ who.Call lane = m.is.by ∙ ap who.Call same in
     let mine : is_of_lane lane.0 call.who ≡ true = ap (is_of_lane lane.0) by ∙ eq-eqb lane.0 lane.0 refl in
     let at : stack_asked link c.stack c.kind ≡ 0 = asks_stack head link c.stack c.kind built ∙ zero in
-    let tail : tail_of link c.stack c.pump c.kind call.reply ≡ tail_if b = ap (λ (s : ℕ). tail_of link s c.pump c.kind call.reply) zero ∙ tail_is head link c.kind c.pump call.reply built in
-    let rests : Follows stacks lane cs (tail_if b) (later ∷ []) = follows_tail stacks lane cs b m.is.tail rest (subst (λ (l : LaneNo). IsTail l b m.is.tail) same m.is.follows) f in
+    let asks : m.event ≡ event_asked link c.kind = asks_event head link c.kind m.event built m.asked in
+    let tail : tail_of link c.stack c.pump c.kind call.reply ≡ then_tail =
+    ap (λ (s : ℕ). tail_of link s c.pump c.kind call.reply) zero
+    ∙ tail_is head link c.kind c.pump call.reply built
+    ∙ ap (λ (e : Event). pumping_if c.pump (tail_of_call e call.reply)) (sym asks) in
+    let rests : Follows stacks lane cs then_tail (later ∷ []) = follows_tail stacks lane cs then_tail m.is.tail rest (subst (λ (l : LaneNo). IsTail l then_tail m.is.tail) same m.is.follows) f in
     let after : Follows stacks lane cs (tail_of link c.stack c.pump c.kind call.reply) (after_next lane.0 all ∷ []) =
-    subst (λ (s : Tail). Follows stacks lane cs s (after_next lane.0 all ∷ [])) (sym tail) (subst (λ (r : List Turn). Follows stacks lane cs (tail_if b) (r ∷ [])) (sym (rest_is lane.0 front call later n mine)) rests) in
+    subst (λ (s : Tail). Follows stacks lane cs s (after_next lane.0 all ∷ [])) (sym tail) (subst (λ (r : List Turn). Follows stacks lane cs then_tail (r ∷ [])) (sym (rest_is lane.0 front call later n mine)) rests) in
     subst (λ (ts : List Turn). Follows stacks lane (c ∷ cs) tails.Ended ((front ++ (ts ++ rest)) ∷ [])) (sym m.is.all)
     (called c cs (all ∷ []) call
     (subst (λ (s : ℕ). promised.next_turn_on lane.0 s 0 (all ∷ []) ≡ Some call) (sym at) (next_is lane.0 front call later n mine))
-    by (m.is.what ∙ asks_event head link c.kind m.event built m.asked) same
+    by (m.is.what ∙ asks) same
     (subst (λ (s : ℕ). Follows stacks lane cs (tail_of link c.stack c.pump c.kind call.reply) (promised.rests_after lane.0 s 0 (all ∷ []))) (sym at) after))
-
-zero_stack : (n : ℕ) → (n == 0) ≡ true → n ≡ 0
-zero_stack n e = grind (arith, nat_tests, e)
 
 -- the calls' turns follow the lane's calls, wherever they stand between turns of no lane
 follows_all : (stacks : List StackSetup) (head : StackHead) (lane : LaneNo) (calls : List Call) (front xs rest : List Turn) → list_all (is_asked_call head) calls ≡ true → MakesAll calls xs → NoneOf lane.0 front → NoneOf lane.0 rest
@@ -252,8 +258,8 @@ follows_all stacks head lane (c ∷ cs) front xs rest built m n r =
 whole_followed : (stacks : List StackSetup) (head : StackHead) (before : List Turn) (filters : List FilterSetup) (calls : List Call) (turns : List Turn) (lane : LaneNo) → list_all (is_asked_call head) calls ≡ true → IsWhole head before filters calls turns → Follows stacks lane calls tails.Ended (turns ∷ [])
 whole_followed stacks head before filters calls turns lane asked w =
     subst (λ (ts : List Turn). Follows stacks lane calls tails.Ended (ts ∷ [])) (sym w.split)
-    (follows_all stacks head lane calls w.opening w.middle w.last asked w.made (own_opens Initialising filters Opened w.left lane.0 w.opening w.opens)
-    (own_ends (ending_of (seen head (before ++ (w.opening ++ w.middle))).phase) ending.Ended lane.0 w.last w.ends))
+    (follows_all stacks head lane calls w.opening w.middle w.last asked w.made (own_turns opening_asks opening_goes (Initialising, filters) (Opened, w.left) lane.0 w.opening w.opens)
+    (own_turns ending_event ending_after (ending_of (seen head (before ++ (w.opening ++ w.middle))).phase) ending.Ended lane.0 w.last w.ends))
 
 pub followed : (stacks : List StackSetup) (filters : List FilterSetup) (calls : List Call) (a b : BookView) (lane : LaneNo) → list_all (is_asked_call a.tray.head) calls ≡ true → a.tray.turns ≡ [] → RunsWhole filters calls a b → IsFollowed stacks lane calls (b.tray.turns ∷ [])
 followed stacks filters calls a b lane asked none w =
@@ -262,7 +268,7 @@ followed stacks filters calls a b lane asked none w =
 
 -- an opening that ends opened is one, and an ending that ends
 opens_as : (a : Opening) (fs gs : List FilterSetup) (xs : List Turn) → OpensTo a fs Opened gs xs → promised.Opens a fs xs
-opens_as a fs gs [] p = p.0
+opens_as a fs gs [] p = ap (λ (o : Opening × List FilterSetup). o.0) p
 opens_as a fs gs (x ∷ xs) p = (record { by = p.0; what = p.1 }, opens_as (opening_after a fs x.reply) (filters_after a fs) gs xs p.2)
 
 ends_as : (a : Ending) (xs : List Turn) → EndsTo a ending.Ended xs → promised.Ends a xs
@@ -289,5 +295,5 @@ runs_unless_refused filters calls a b none w =
     let k : IsWhole a.tray.head a.tray.turns filters calls w.added.more = w.added.kind in
     record {
       ended = opened_and_ended filters calls a b none w;
-      running = subst (λ ts. ((seen a.tray.head (ts ++ (k.opening ++ k.middle))).phase ≡ phase.Running) ⊎ IsRisen a.held.miniport.refusals b.held.miniport.refusals) none w.ran;
+      running = subst (λ ts. ((seen a.tray.head (ts ++ k.opening)).phase ≡ phase.Running) ⊎ IsRisen a.held.miniport.refusals b.held.miniport.refusals) none w.ran;
     }

@@ -76,7 +76,6 @@ pub makes : (c : Call) (e : Event) (x y : BookView) → Some e ≡ event_of c.ki
 makes c e x y is m = record {
   between = m.between;
   head_is = added_head x y m.added.more m.added.adds;
-  phase_is = m.phase_is;
   added = as_kind (IsCall c.lane e c.pump) (Makes c) (λ xs p. record { event = e; asked = sym is; is = p }) m.added;
 }
 
@@ -85,7 +84,6 @@ made_all : (c : Call) (cs : List Call) (x y z : BookView) → MakesOne c x y →
 made_all c cs x y z p q = record {
   between = q.between;
   head_is = q.head_is ∙ p.head_is;
-  phase_is = q.phase_is ∙ p.phase_is;
   added = both (Makes c) (MakesAll cs) (MakesAll (c ∷ cs)) (λ xs ys m n. (xs, ys, refl, m, n)) p.added q.added;
 }
 
@@ -98,7 +96,7 @@ pub made_first : (s : List Call) (c : Call) (x y z : BookView) → 1 ≤ length 
 made_first s c x y z some is p q = subst (λ cs. MakesEach cs x z) (first_and_rest s c some is) (made_all c (take (length s - 1) (drop 1 s)) x y z p q)
 
 pub made_none : (s : List Call) (x : BookView) → length s < 1 → IsBetween x → MakesEach s x x
-made_none [] x none k = record { between = k; head_is = refl; phase_is = refl; added = none_added (MakesAll []) x refl }
+made_none [] x none k = record { between = k; head_is = refl; added = none_added (MakesAll []) x refl }
 made_none (c ∷ s) x none k = absurd (omega arith)
 
 -- the calls can be asked of the opened stack too
@@ -135,19 +133,17 @@ runs_whole filters calls a b c d o m e =
         };
       };
       turns = added_turns a d ((o.added.more ++ m.added.more) ++ e.added.more) all;
-      ran = still_ran at kept o.ran;
+      ran = still_ran kept o.ran;
     }
   where
-    still_ran : c.tray.net ≡ seen a.tray.head (a.tray.turns ++ (o.added.more ++ m.added.more)) → KeepsCounts b.held d.held
-        → (b.tray.net.phase ≡ phase.Running) ⊎ ((b.tray.net.phase ≡ phase.Halted) × IsRisen a.held.miniport.refusals b.held.miniport.refusals)
-        → ((seen a.tray.head (a.tray.turns ++ (o.added.more ++ m.added.more))).phase ≡ phase.Running) ⊎ IsRisen a.held.miniport.refusals d.held.miniport.refusals
-    still_ran at kept (inl runs) = inl (ap (λ (n : Net). n.phase) (sym at) ∙ m.phase_is ∙ runs)
-    still_ran at kept (inr refused) = inr (stays_risen a.held.miniport.refusals b.held.miniport.refusals d.held.miniport.refusals refused.1 kept.miniport)
+    opened : b.tray.net ≡ seen a.tray.head (a.tray.turns ++ o.added.more)
+    opened =
+        idle_state b o.between.book o.between.idle
+        ∙ ap (λ (h : StackHead). seen h b.tray.turns) (added_head a b o.added.more o.added.adds)
+        ∙ ap (seen a.tray.head) (added_turns a b o.added.more o.added.adds)
 
--- a stack that was opened runs, or is Halted, and so it is while its calls are made
-pub runs_or_halted : (filters : List FilterSetup) (calls : List Call) (a b c : BookView) → OpensStack filters a b → MakesEach calls b c → (c.tray.net.phase ≡ phase.Running) ⊎ (c.tray.net.phase ≡ phase.Halted)
-runs_or_halted filters calls a b c o m = by_case o.ran
-  where
-    by_case : (b.tray.net.phase ≡ phase.Running) ⊎ ((b.tray.net.phase ≡ phase.Halted) × IsRisen a.held.miniport.refusals b.held.miniport.refusals) → (c.tray.net.phase ≡ phase.Running) ⊎ (c.tray.net.phase ≡ phase.Halted)
-    by_case (inl runs) = inl (m.phase_is ∙ runs)
-    by_case (inr refused) = inr (m.phase_is ∙ refused.0)
+    still_ran : KeepsCounts b.held d.held
+        → (b.tray.net.phase ≡ phase.Running) ⊎ ((b.tray.net.phase ≡ phase.Halted) × IsRisen a.held.miniport.refusals b.held.miniport.refusals)
+        → ((seen a.tray.head (a.tray.turns ++ o.added.more)).phase ≡ phase.Running) ⊎ IsRisen a.held.miniport.refusals d.held.miniport.refusals
+    still_ran kept (inl runs) = inl (ap (λ (n : Net). n.phase) (sym opened) ∙ runs)
+    still_ran kept (inr refused) = inr (stays_risen a.held.miniport.refusals b.held.miniport.refusals d.held.miniport.refusals refused.1 kept.miniport)

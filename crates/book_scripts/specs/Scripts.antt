@@ -18,12 +18,19 @@ use Rattle.book_lemmas.specs.Views.{BookView}
 use Rattle.book_runs.specs.Adds.{AddsTurns, IsCall, OpensTo, EndsTo}
 use Rattle.book_runs.specs.Runs.{IsBetween, IsInPhase}
 
--- an event that a run can ask: a send, a transmit, a pump or a drain
+-- an event that a run can ask: a send, a transmit, a pump or a drain, a step of a pause or of a restart, or a change of
+-- the filters
 abbrev pub is_asked_event : StackHead → Option Event → Bool
 is_asked_event head (Some (event.Send binding cancel frames)) = may_ask head (event.Send binding cancel frames)
 is_asked_event head (Some event.Transmit) = true
 is_asked_event head (Some event.Pump) = true
 is_asked_event head (Some event.Drain) = true
+is_asked_event head (Some event.BeginPause) = true
+is_asked_event head (Some event.PauseNext) = true
+is_asked_event head (Some event.RestartNext) = true
+is_asked_event head (Some (event.Insert kind position setup)) = may_ask head (event.Insert kind position setup)
+is_asked_event head (Some (event.Remove filter)) = may_ask head (event.Remove filter)
+is_asked_event head (Some (event.Replace filter kind setup)) = may_ask head (event.Replace filter kind setup)
 is_asked_event head _ = false
 
 -- a call of the only stack
@@ -41,17 +48,15 @@ abbrev pub MakesAll : List Call → List Turn → Type 0
 MakesAll [] turns = turns ≡ []
 MakesAll (c ∷ cs) turns = (first : List Turn) × (rest : List Turn) × (turns ≡ first ++ rest) × Makes c first × MakesAll cs rest
 
--- a call was made, or these calls were: head and phase stay
+-- a call was made, or these calls were: the head stays
 pub record MakesOne (call : Call) (old new : BookView) : Type 0 where
   pub between : IsBetween new
   pub head_is : new.tray.head ≡ old.tray.head
-  pub phase_is : new.tray.net.phase ≡ old.tray.net.phase
   pub added : AddsTurns (Makes call) old new
 
 pub record MakesEach (calls : List Call) (old new : BookView) : Type 0 where
   pub between : IsBetween new
   pub head_is : new.tray.head ≡ old.tray.head
-  pub phase_is : new.tray.net.phase ≡ old.tray.net.phase
   pub added : AddsTurns (MakesAll calls) old new
 
 -- the turns are an opening with these filters, these calls, and the ending by the phase that the stack is then in
@@ -65,11 +70,11 @@ pub record IsWhole (head : StackHead) (before : List Turn) (filters : List Filte
   pub made : MakesAll calls middle
   pub ends : EndsTo (ending_of (seen head (before ++ (opening ++ middle))).phase) ending.Ended last
 
--- a whole run was added: the stack is Halted again, and the drivers did what its rows say; it runs once it is opened and
--- until its calls are made, unless its adapter refused, and counted that
+-- a whole run was added: the stack is Halted again, and the drivers did what its rows say; it runs once it is opened,
+-- unless its adapter refused, and counted that
 pub record RunsWhole (filters : List FilterSetup) (calls : List Call) (old new : BookView) : Type 0 where
   pub now : IsInPhase new phase.Halted
   pub head_is : new.tray.head ≡ old.tray.head
   pub added : AddsTurns (IsWhole old.tray.head old.tray.turns filters calls) old new
   pub turns : new.tray.turns ≡ old.tray.turns ++ added.more
-  pub ran : ((seen old.tray.head (old.tray.turns ++ (added.kind.opening ++ added.kind.middle))).phase ≡ phase.Running) ⊎ IsRisen old.held.miniport.refusals new.held.miniport.refusals
+  pub ran : ((seen old.tray.head (old.tray.turns ++ added.kind.opening)).phase ≡ phase.Running) ⊎ IsRisen old.held.miniport.refusals new.held.miniport.refusals

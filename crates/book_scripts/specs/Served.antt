@@ -26,10 +26,10 @@ pub record AreServed (turns : List Turn) (miniport : MiniportState) (protocols :
   pub protocols_served : (i : ℕ) → IsServedBy turns (Binding i) (slice_index_or protocols i no_protocol).did (slice_index_or protocols' i no_protocol).did
   pub as_many : length protocols' ≡ length protocols
 
--- the stack runs from its opening until its calls are made, unless its adapter refused to be initialised, and counted that
+-- after its opening the stack runs, unless its adapter refused to be initialised, and counted that
 pub record RunsUnlessRefused (head : StackHead) (filters : List FilterSetup) (turns : List Turn) (miniport miniport' : MiniportState) : Type 0 where
   pub ended : IsOpenedAndEnded head filters turns
-  pub running : ((seen head (ended.opening ++ ended.middle)).phase ≡ phase.Running) ⊎ IsRisen miniport.refusals miniport'.refusals
+  pub running : ((seen head ended.opening).phase ≡ phase.Running) ⊎ IsRisen miniport.refusals miniport'.refusals
 
 -- the drivers of a stack served its journal, and the filters' drivers are of the kinds that they were
 pub record DriversServed (head : StackHead) (filters : List FilterSetup) (turns : List Turn) (old new : HeldView) : Type 0 where

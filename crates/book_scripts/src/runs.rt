@@ -61,8 +61,8 @@ fn run_calls<M: MiniportCalls, P: ProtocolCalls, F: FilterCalls>(
 /// Runs a stack that was just opened: it is initialised, these filters are inserted and it is restarted; the calls are
 /// made in order, each with its tail; and it is ended. Each lane's calls stand in the journal once and in order, each
 /// with its tail, between the opening and the ending; the laws of sound journals hold of it; the drivers of the
-/// miniport and of the bindings count and log what it tells; the stack runs, unless its adapter counted that it
-/// refused; and shelf and seats are those that are promised of the journal, where they were so before it.
+/// miniport and of the bindings count and log what it tells; once it is opened the stack runs, unless its adapter
+/// counted that it refused; and shelf and seats are those that are promised of the journal, where they were so before it.
 pub fn run_stack<M: MiniportCalls, P: ProtocolCalls, F: FilterCalls>(
     book: &mut BookParts<M, P, F>,
     alloc: Global,

@@ -1,4 +1,4 @@
-use Rattle.book_scripts.proofs.Whole.{asked_opened, run_shelved, runs_or_halted, runs_whole}
+use Rattle.book_scripts.proofs.Whole.{asked_opened, run_shelved, runs_whole}
 use Rattle.book_scripts.proofs.Followed.{followed}
 use Rattle.book_scripts.proofs.Laws.{run_is_sound, run_meets_laws}
 use Rattle.book_scripts.proofs.Places.{run_filters_served}
@@ -7,9 +7,6 @@ use Rattle.book_scripts.proofs.runs.run_stack.Goals as goal
 
 pub run_calls-requires-clause-asked : goal.run_calls-requires-clause-asked
 run_calls-requires-clause-asked g c = asked_opened c.args.calls.now c.args.filters.now _ _ c.in_ok-open_stack.ensures.opens c.requires.asked
-
-pub end_stack-requires-clause-phase : goal.end_stack-requires-clause-phase
-end_stack-requires-clause-phase g c = runs_or_halted c.args.filters.now c.args.calls.now _ _ _ c.in_ok-open_stack.ensures.opens c.in_ok-run_calls.ensures.made
 
 pub returns-clause-whole : goal.returns-clause-whole
 returns-clause-whole g c = runs_whole _ _ _ _ _ _ c.in_ok-open_stack.ensures.opens c.in_ok-run_calls.ensures.made c.in_ok-end_stack.ensures.ends
