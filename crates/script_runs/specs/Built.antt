@@ -16,6 +16,8 @@ use Rattle.script_types.specs.declared.Script.{Script}
 use Rattle.script_types.specs.declared.StackSetup.{StackSetup}
 use Rattle.script_types.specs.declared.FilterSetup.{FilterSetup}
 use Rattle.script_types.specs.declared.Call.{Call}
+use Rattle.script_types.specs.declared.CallKind.{CallKind}
+use Rattle.script_types.specs.declared.CallKind.TheVariants as ask
 use Rattle.promise_rules.specs.Followed.{IsFollowed, IsOpenedAndEnded}
 use Rattle.book_scripts.specs.Laws.{MeetsLaws}
 use Rattle.book_scripts.specs.Scripts.{is_asked_call}
@@ -49,8 +51,17 @@ is_built_stack s =
     is_built_miniport s.miniport.kind
     && (is_between 1 8 (length s.bindings) && (list_all is_built_binding s.bindings && (nat_le (length s.filters) 16 && list_all is_built_filter s.filters)))
 
+-- a call that can be made: where it puts a filter in, one of such a kind
+abbrev pub is_built_change : CallKind → Bool
+is_built_change (ask.Insert position kind setup) = is_built_kind kind
+is_built_change (ask.Replace filter kind setup) = is_built_kind kind
+is_built_change _ = true
+
+abbrev pub is_built_call : StackHead → Call → Bool
+is_built_call head c = is_asked_call head c && is_built_change c.kind
+
 abbrev pub are_built : List StackSetup → List Call → Bool
-are_built (s ∷ []) calls = is_built_stack s && list_all (is_asked_call (head_of s)) calls
+are_built (s ∷ []) calls = is_built_stack s && list_all (is_built_call (head_of s)) calls
 are_built _ calls = false
 
 -- a script that can be run: one lane and one stack

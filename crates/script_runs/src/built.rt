@@ -1,5 +1,5 @@
 //! Which scripts can be run.
-ghost use Rattle.std.specs.Prelude.{◌≡◌, IfOk};
+ghost use Rattle.std.specs.Prelude.{◌≡◌, IfOk, nat_le};
 ghost use Rattle.std.specs.List.{list_all};
 ghost use Rattle.stack_rules.specs.Conditions.{is_cancel, is_frame, are_frames, is_fine_test, is_program, is_setup};
 ghost use Rattle.journal_types.specs.declared.StackHead.{StackHead};
@@ -15,13 +15,13 @@ use std::alloc::Global;
 
 /// Whether a script can be run: one lane; one stack of an adapter with a ring, of 1 to 8 protocols that
 /// log, retain or echo, and of at most 16 filters that pass, hold or count; and calls that send, transmit,
-/// pump or drain.
+/// pump, drain, pause, restart, or change the filters by such.
 pub fn is_built(script: &Script) -> bool
     ensures { result ≡ form.is_built script.now }
 {
     script.lanes == 1
         && match script.stacks.items() {
-            [stack] => is_built_stack(stack) && are_asked_calls(stack, script.calls.items()),
+            [stack] => is_built_stack(stack) && are_built_calls(stack, script.calls.items()),
             _ => false,
         }
 }
@@ -109,12 +109,27 @@ fn is_fine_test(test: Test) -> bool
     }
 }
 
-fn are_asked_calls(stack: &StackSetup, calls: &[Call]) -> bool
-    ensures { result ≡ list_all (is_asked_call (form.head_of stack.now)) calls.now }
+fn are_built_calls(stack: &StackSetup, calls: &[Call]) -> bool
+    ensures { result ≡ list_all (form.is_built_call (form.head_of stack.now)) calls.now }
 {
     match calls {
-        [first, rest @ ..] => is_asked_call(stack, first) && are_asked_calls(stack, rest),
+        [first, rest @ ..] => is_built_call(stack, first) && are_built_calls(stack, rest),
         [] => true,
+    }
+}
+
+fn is_built_call(stack: &StackSetup, call: &Call) -> bool
+    ensures { result ≡ form.is_built_call (form.head_of stack.now) call.now }
+{
+    is_asked_call(stack, call) && is_built_change(&call.kind)
+}
+
+fn is_built_change(kind: &CallKind) -> bool
+    ensures { result ≡ form.is_built_change kind.now }
+{
+    match kind {
+        CallKind::Insert { kind, .. } | CallKind::Replace { kind, .. } => is_built_kind(*kind),
+        _ => true,
     }
 }
 
@@ -137,9 +152,23 @@ fn is_asked_kind(stack: &StackSetup, kind: &CallKind) -> bool
                 && is_cancel(*cancel)
                 && are_frames(frames.items())
         }
-        CallKind::Transmit | CallKind::Pump | CallKind::Drain => true,
+        CallKind::Insert { setup, .. } => is_setup(setup),
+        CallKind::Remove { filter } => is_number(*filter),
+        CallKind::Replace { filter, setup, .. } => is_number(*filter) && is_setup(setup),
+        CallKind::Transmit
+        | CallKind::Pump
+        | CallKind::Drain
+        | CallKind::BeginPause
+        | CallKind::PauseNext
+        | CallKind::RestartNext => true,
         _ => false,
     }
+}
+
+fn is_number(filter: u64) -> bool
+    ensures { result ≡ nat_le filter 999999999 }
+{
+    filter <= 999_999_999
 }
 
 fn is_cancel(cancel: Option<u32>) -> bool
