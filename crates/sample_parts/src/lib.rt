@@ -2,7 +2,7 @@
 //! drivers doesn't hand them out, so the calls stand here.
 #![tactic(auto)]
 
-ghost use Rattle.std.specs.Prelude.{All, map};
+ghost use Rattle.std.specs.Prelude.{◌≡◌, [], All, map};
 ghost use Rattle.book_lemmas.specs.Stands.{IsResting};
 ghost use Rattle.book_opening.specs.Opened.{IsHaltedDriver, IsClosedDriver};
 
@@ -73,17 +73,25 @@ fn add_filter(
     Ok(())
 }
 
-/// Calls with these words over so many drivers of each kind, all new; and, where there is a further
-/// source, once more over the drivers that came back. It answers how the last call ended.
-pub fn call_over<S: Source, K: Sink>(
+/// The same with room for the drivers, which has none yet.
+fn call_with<S: Source, K: Sink>(
     alloc: Global,
     drivers: Drivers,
     words: &[String],
     source: &mut S,
     further: Option<&mut S>,
     sink: &mut K,
-) -> Result<Status, OutOfMemory> {
-    let mut miniports: Vec<Box<dyn MiniportDriver>> = Vec::new(alloc);
+    room: StackDrivers<Box<dyn MiniportDriver>, Box<dyn ProtocolDriver>, Box<dyn FilterDriver>>,
+) -> Result<Status, OutOfMemory>
+    requires miniports { room.miniports.items ≡ [] }
+    requires protocols { room.protocols.items ≡ [] }
+    requires shelf { room.shelf.items ≡ [] }
+{
+    let StackDrivers {
+        mut miniports,
+        mut protocols,
+        mut shelf,
+    } = room;
     for _ in 0..drivers.miniports {
         add_miniport(
             &mut miniports,
@@ -94,7 +102,6 @@ pub fn call_over<S: Source, K: Sink>(
             Box::new(alloc, LoopAdapter::make(alloc, 0)?)?,
         )?;
     }
-    let mut protocols: Vec<Box<dyn ProtocolDriver>> = Vec::new(alloc);
     for _ in 0..drivers.protocols {
         add_protocol(&mut protocols, Box::new(alloc, LogProtocol::make(alloc)?)?)?;
         add_protocol(
@@ -103,7 +110,6 @@ pub fn call_over<S: Source, K: Sink>(
         )?;
         add_protocol(&mut protocols, Box::new(alloc, EchoProtocol::make(alloc)?)?)?;
     }
-    let mut shelf: Vec<Box<dyn FilterDriver>> = Vec::new(alloc);
     for _ in 0..drivers.filters {
         add_filter(&mut shelf, Box::new(alloc, PassFilter::make(alloc)?)?)?;
         add_filter(&mut shelf, Box::new(alloc, HoldFilter::make(alloc)?)?)?;
@@ -120,4 +126,22 @@ pub fn call_over<S: Source, K: Sink>(
         Some(further) => Ok(ndis_serial(alloc, words, further, sink, &mut parts)),
         None => Ok(status),
     }
+}
+
+/// Calls with these words over so many drivers of each kind, all new; and, where there is a further
+/// source, once more over the drivers that came back. It answers how the last call ended.
+pub fn call_over<S: Source, K: Sink>(
+    alloc: Global,
+    drivers: Drivers,
+    words: &[String],
+    source: &mut S,
+    further: Option<&mut S>,
+    sink: &mut K,
+) -> Result<Status, OutOfMemory> {
+    let room = StackDrivers {
+        miniports: Vec::new(alloc),
+        protocols: Vec::new(alloc),
+        shelf: Vec::new(alloc),
+    };
+    call_with(alloc, drivers, words, source, further, sink, room)
 }
