@@ -2,7 +2,7 @@
 //! drivers doesn't hand them out, so the calls stand here.
 #![tactic(auto)]
 
-ghost use Rattle.std.specs.Prelude.{◌≡◌, [], All, map};
+ghost use Rattle.std.specs.Prelude.{◌≡◌, true, All, IfOk, map};
 ghost use Rattle.book_lemmas.specs.Stands.{IsResting};
 ghost use Rattle.book_opening.specs.Opened.{IsHaltedDriver, IsClosedDriver};
 
@@ -34,98 +34,82 @@ pub const ALL_DRIVERS: Drivers = Drivers {
     filters: 16,
 };
 
-/// Adds a miniport that is halted to such.
-fn add_miniport(
-    miniports: &mut Vec<Box<dyn MiniportDriver>>,
-    miniport: Box<dyn MiniportDriver>,
-) -> Result<(), OutOfMemory>
-    requires halted { IsHaltedDriver (⟦<Box<dyn MiniportDriver> as MiniportCalls>⟧.state miniport) }
-    requires all { All IsHaltedDriver (map (λ b. ⟦<Box<dyn MiniportDriver> as MiniportCalls>⟧.state b) miniports.old.items) }
-    ensures { All IsHaltedDriver (map (λ b. ⟦<Box<dyn MiniportDriver> as MiniportCalls>⟧.state b) miniports.new.items) }
+/// Brings a driver to rest, where it keeps nothing.
+fn rest_miniport<M: MiniportCalls>(miniport: &mut M) -> bool
+    ensures { result ≡ true → IsHaltedDriver (M.state miniport.new) }
 {
-    miniports.push(miniport)?;
-    Ok(())
+    if miniport.held() > 0 {
+        return false;
+    }
+    miniport.halt();
+    true
 }
 
-/// Adds a protocol that is closed to such.
-fn add_protocol(
-    protocols: &mut Vec<Box<dyn ProtocolDriver>>,
-    protocol: Box<dyn ProtocolDriver>,
-) -> Result<(), OutOfMemory>
-    requires closed { IsClosedDriver (⟦<Box<dyn ProtocolDriver> as ProtocolCalls>⟧.state protocol) }
-    requires all { All IsClosedDriver (map (λ b. ⟦<Box<dyn ProtocolDriver> as ProtocolCalls>⟧.state b) protocols.old.items) }
-    ensures { All IsClosedDriver (map (λ b. ⟦<Box<dyn ProtocolDriver> as ProtocolCalls>⟧.state b) protocols.new.items) }
+/// Drivers that rest. One that keeps a list is let go.
+fn rested_miniports<M: MiniportCalls>(alloc: Global, those: Vec<M>) -> Result<Vec<M>, OutOfMemory>
+    ensures { IfOk result (λ v. All IsHaltedDriver (map M.state v.items)) }
 {
-    protocols.push(protocol)?;
-    Ok(())
+    let mut those = those;
+    let mut rested = Vec::new(alloc);
+    while let Some(item) = those.pop() {
+        let mut item = item;
+        if rest_miniport(&mut item) {
+            rested.push(item)?;
+        }
+    }
+    Ok(rested)
 }
 
-/// Adds a filter that is detached to such.
-fn add_filter(
-    shelf: &mut Vec<Box<dyn FilterDriver>>,
-    filter: Box<dyn FilterDriver>,
-) -> Result<(), OutOfMemory>
-    requires rests { IsResting (⟦<Box<dyn FilterDriver> as FilterCalls>⟧.state filter) }
-    requires all { All IsResting (map (λ b. ⟦<Box<dyn FilterDriver> as FilterCalls>⟧.state b) shelf.old.items) }
-    ensures { All IsResting (map (λ b. ⟦<Box<dyn FilterDriver> as FilterCalls>⟧.state b) shelf.new.items) }
+/// Brings a driver to rest, where it keeps nothing.
+fn rest_protocol<P: ProtocolCalls>(protocol: &mut P) -> bool
+    ensures { result ≡ true → IsClosedDriver (P.state protocol.new) }
 {
-    shelf.push(filter)?;
-    Ok(())
+    if protocol.held() > 0 {
+        return false;
+    }
+    protocol.close();
+    true
 }
 
-/// The same with room for the drivers, which has none yet.
-fn call_with<S: Source, K: Sink>(
-    alloc: Global,
-    drivers: Drivers,
-    words: &[String],
-    source: &mut S,
-    further: Option<&mut S>,
-    sink: &mut K,
-    room: StackDrivers<Box<dyn MiniportDriver>, Box<dyn ProtocolDriver>, Box<dyn FilterDriver>>,
-) -> Result<Status, OutOfMemory>
-    requires miniports { room.miniports.items ≡ [] }
-    requires protocols { room.protocols.items ≡ [] }
-    requires shelf { room.shelf.items ≡ [] }
+/// Drivers that rest. One that keeps a list is let go.
+fn rested_protocols<P: ProtocolCalls>(alloc: Global, those: Vec<P>) -> Result<Vec<P>, OutOfMemory>
+    ensures { IfOk result (λ v. All IsClosedDriver (map P.state v.items)) }
 {
-    let StackDrivers {
-        mut miniports,
-        mut protocols,
-        mut shelf,
-    } = room;
-    for _ in 0..drivers.miniports {
-        add_miniport(
-            &mut miniports,
-            Box::new(alloc, RingAdapter::make(alloc, 0)?)?,
-        )?;
-        add_miniport(
-            &mut miniports,
-            Box::new(alloc, LoopAdapter::make(alloc, 0)?)?,
-        )?;
+    let mut those = those;
+    let mut rested = Vec::new(alloc);
+    while let Some(item) = those.pop() {
+        let mut item = item;
+        if rest_protocol(&mut item) {
+            rested.push(item)?;
+        }
     }
-    for _ in 0..drivers.protocols {
-        add_protocol(&mut protocols, Box::new(alloc, LogProtocol::make(alloc)?)?)?;
-        add_protocol(
-            &mut protocols,
-            Box::new(alloc, RetainProtocol::make(alloc)?)?,
-        )?;
-        add_protocol(&mut protocols, Box::new(alloc, EchoProtocol::make(alloc)?)?)?;
+    Ok(rested)
+}
+
+/// Brings a driver to rest, where it keeps nothing.
+fn rest_filter<F: FilterCalls>(filter: &mut F) -> bool
+    ensures { result ≡ true → IsResting (F.state filter.new) }
+{
+    if filter.held() > 0 {
+        return false;
     }
-    for _ in 0..drivers.filters {
-        add_filter(&mut shelf, Box::new(alloc, PassFilter::make(alloc)?)?)?;
-        add_filter(&mut shelf, Box::new(alloc, HoldFilter::make(alloc)?)?)?;
-        add_filter(&mut shelf, Box::new(alloc, CountFilter::make(alloc)?)?)?;
+    filter.detach();
+    true
+}
+
+/// Drivers that rest. One that keeps a list is let go.
+fn rested_filters<F: FilterCalls>(alloc: Global, those: Vec<F>) -> Result<Vec<F>, OutOfMemory>
+    ensures { IfOk result (λ v. All IsResting (map F.state v.items)) }
+{
+    let mut those = those;
+    let mut rested = Vec::new(alloc);
+    while let Some(item) = those.pop() {
+        let mut item = item;
+        if rest_filter(&mut item) {
+            rested.push(item)?;
+        }
     }
-    let mut parts = Vec::with_capacity(alloc, 1)?;
-    parts.push(StackDrivers {
-        miniports,
-        protocols,
-        shelf,
-    })?;
-    let status = ndis_serial(alloc, words, source, sink, &mut parts);
-    match further {
-        Some(further) => Ok(ndis_serial(alloc, words, further, sink, &mut parts)),
-        None => Ok(status),
-    }
+    Ok(rested)
 }
 
 /// Calls with these words over so many drivers of each kind, all new; and, where there is a further
@@ -138,10 +122,32 @@ pub fn call_over<S: Source, K: Sink>(
     further: Option<&mut S>,
     sink: &mut K,
 ) -> Result<Status, OutOfMemory> {
-    let room = StackDrivers {
-        miniports: Vec::new(alloc),
-        protocols: Vec::new(alloc),
-        shelf: Vec::new(alloc),
-    };
-    call_with(alloc, drivers, words, source, further, sink, room)
+    let mut miniports: Vec<Box<dyn MiniportDriver>> = Vec::new(alloc);
+    let mut protocols: Vec<Box<dyn ProtocolDriver>> = Vec::new(alloc);
+    let mut shelf: Vec<Box<dyn FilterDriver>> = Vec::new(alloc);
+    for _ in 0..drivers.miniports {
+        miniports.push(Box::new(alloc, RingAdapter::make(alloc, 0)?)?)?;
+        miniports.push(Box::new(alloc, LoopAdapter::make(alloc, 0)?)?)?;
+    }
+    for _ in 0..drivers.protocols {
+        protocols.push(Box::new(alloc, LogProtocol::make(alloc)?)?)?;
+        protocols.push(Box::new(alloc, RetainProtocol::make(alloc)?)?)?;
+        protocols.push(Box::new(alloc, EchoProtocol::make(alloc)?)?)?;
+    }
+    for _ in 0..drivers.filters {
+        shelf.push(Box::new(alloc, PassFilter::make(alloc)?)?)?;
+        shelf.push(Box::new(alloc, HoldFilter::make(alloc)?)?)?;
+        shelf.push(Box::new(alloc, CountFilter::make(alloc)?)?)?;
+    }
+    let mut parts = Vec::with_capacity(alloc, 1)?;
+    parts.push(StackDrivers {
+        miniports: rested_miniports(alloc, miniports)?,
+        protocols: rested_protocols(alloc, protocols)?,
+        shelf: rested_filters(alloc, shelf)?,
+    })?;
+    let status = ndis_serial(alloc, words, source, sink, &mut parts);
+    match further {
+        Some(further) => Ok(ndis_serial(alloc, words, further, sink, &mut parts)),
+        None => Ok(status),
+    }
 }
