@@ -31,7 +31,7 @@ pub data IsFaulty (bytes : List ℕ) (at : ScriptPlace) (why : ScriptCause) : Ty
 abbrev pub AddsAll : Option (List ℕ) → Option (List ℕ) → List ℕ → Type 0
 AddsAll held held' text = held' ≡ after held text
 
--- the drivers of the first of the parts came back after a run with these rows, and the other parts are as they
+-- the drivers of the first of the parts came back after a run of these turns, and the other parts are as they
 -- were
 pub record AreBack (stacks : List StackSetup) (turns : List Turn) (parts parts' : List HandedView) : Type 0 where
   pub first : HandedView
@@ -42,9 +42,8 @@ pub record AreBack (stacks : List StackSetup) (turns : List Turn) (parts parts' 
   pub back : ComesBack stacks turns first now
 
 -- a script was run over the first of the parts: its journal is of its stack, sound, and as the laws and the
--- script ask; the stack's drivers came back, did what its rows say and nothing else, and served it as is
--- promised of journals; and what was written is the report of that journal, or, with AddsPrefix, a prefix of
--- it
+-- script ask; the stack's drivers came back, and counted and logged what is promised of that journal; and what
+-- was written is the report of that journal, or, with AddsPrefix, a prefix of it
 pub record Replayed (How : Option (List ℕ) → Option (List ℕ) → List ℕ → Type 0) (script : Script) (parts parts' : List HandedView) (held held' : Option (List ℕ)) : Type 0 where
   pub journal : FlatView
   pub ran : IsRun script journal.head journal.turns

@@ -49,8 +49,9 @@ pub enum Status {
 }
 
 /// Reads a script, opens its stack over the first of the parts, makes its calls, ends the stack, and
-/// writes the report. The drivers come back to where they were after every answer but `Memory`, those
-/// of the stack first; after an answer before the run they are as they were.
+/// writes the report. After every answer but `Memory` the drivers come back to where they were: the
+/// miniport and the protocols of the stack before the others, and on the shelf filters of the same kinds
+/// in the same order. After an answer before the run they are as they were.
 pub fn ndis_serial<S: Source, K: Sink, M: MiniportCalls, P: ProtocolCalls, F: FilterCalls>(
     alloc: Global,
     words: &[String],

@@ -1,5 +1,5 @@
 -- Which drivers the only stack takes, and how they come back.
-use Rattle.std.proofs.Common.{◌≡◌, List, [], ◌∷◌, ◌++◌, map, sym, ap, subst, ◌∙◌}
+use Rattle.std.proofs.Common.{◌≡◌, ℕ, ◌<◌, List, [], ◌∷◌, ◌++◌, length, map, slice_index_or, sym, ap, subst, ◌∙◌}
 use Rattle.journal_types.specs.declared.StackHead.{StackHead}
 use Rattle.journal_types.specs.declared.Turn.{Turn}
 use Rattle.script_types.specs.declared.FilterSetup.{FilterSetup}
@@ -7,7 +7,12 @@ use Rattle.script_types.specs.declared.StackSetup.{StackSetup}
 use Rattle.driver_views.specs.States.{FilterState, MiniportState, ProtocolState}
 use Rattle.driver_choice.specs.Chosen.{Takes, Lacks}
 use Rattle.driver_choice.proofs.Standing.{takes_stand}
-use Rattle.book_lemmas.specs.Views.{HeldView}
+use Rattle.stack_rules.specs.Heads.{kind_of_binding}
+use Rattle.stack_rules.specs.Net.{Net}
+use Rattle.book_lemmas.specs.Views.{BookView, HeldView, no_protocol}
+use Rattle.book_lemmas.proofs.Heads.{head_seen}
+use Rattle.book_parts.specs.Events.{IsBook, IsIdle}
+use Rattle.book_parts.proofs.Ended.{idle_state}
 use Rattle.book_opening.specs.Opened.{HandedView, kind_of}
 use Rattle.book_scripts.specs.Served.{AreServed, DriversServed, FiltersServed, RunsUnlessRefused}
 use Rattle.script_runs.specs.Built.{head_of}
@@ -38,13 +43,33 @@ leaves_drivers stacks s stack head handed others miniport protocols same only is
   no_shelf = none;
 }
 
+-- the drivers of a stack are of its head's kinds, before a run and after it
+pub record AreOfKinds (old new : HeldView) : Type 0 where
+  pub miniport_is : new.miniport.kind ≡ old.miniport.kind
+  pub protocols_are : (i : ℕ) → i < length new.protocols → (slice_index_or new.protocols i no_protocol).kind ≡ (slice_index_or old.protocols i no_protocol).kind
+
+state_head : (v : BookView) → IsBook v → IsIdle v → v.tray.net.head ≡ v.tray.head
+state_head v k i = ap (λ (n : Net). n.head) (idle_state v k i) ∙ head_seen v.tray.head v.tray.turns
+
+pub are_of_kinds : (x y : BookView) → IsBook x → IsIdle x → IsBook y → IsIdle y → y.tray.head ≡ x.tray.head → AreOfKinds x.held y.held
+are_of_kinds x y k i l j same =
+    let head : y.tray.net.head ≡ x.tray.net.head = state_head y l j ∙ same ∙ sym (state_head x k i) in
+    record {
+      miniport_is = l.stands.miniport_kind ∙ ap (λ (h : StackHead). h.kind) head ∙ sym k.stands.miniport_kind;
+      protocols_are = λ b within.
+          let there : b < length y.tray.net.head.bindings = subst (λ n. b < n) l.stands.protocols within in
+          l.stands.protocol_kinds b there
+          ∙ ap (λ h. kind_of_binding h b) head
+          ∙ sym (k.stands.protocol_kinds b (subst (λ (h : StackHead). b < length h.bindings) head there));
+    }
+
 -- after the run the stack's drivers stand before them, and did what its journal tells
 pub comes_back : (stacks s : List StackSetup) (stack : StackSetup) (head begun : StackHead) (fs : List FilterSetup) (handed others back : HandedView) (old new : HeldView) (turns after : List Turn) → s ≡ stacks → s ≡ stack ∷ [] → head ≡ head_of stack
     → Takes head handed.drivers old.miniport old.protocols others.drivers → others.shelf ≡ [] → begun ≡ head → fs ≡ stack.filters → DriversServed begun fs turns old new → after ≡ turns
-    → back.drivers.miniports ≡ new.miniport ∷ others.drivers.miniports → back.drivers.protocols ≡ new.protocols ++ others.drivers.protocols → back.shelf ≡ new.filters → old.filters ≡ handed.shelf → FiltersServed turns old.filters new.filters
+    → back.drivers.miniports ≡ new.miniport ∷ others.drivers.miniports → back.drivers.protocols ≡ new.protocols ++ others.drivers.protocols → back.shelf ≡ new.filters → old.filters ≡ handed.shelf → FiltersServed turns old.filters new.filters → AreOfKinds old new
     → ComesBack stacks after handed back
 unfolding leaves_drivers
-comes_back stacks s stack head begun fs handed others back old new turns after same only is takes none kept filters served journal miniports protocols shelf_new shelf_old filters_did =
+comes_back stacks s stack head begun fs handed others back old new turns after same only is takes none kept filters served journal miniports protocols shelf_new shelf_old filters_did kinds =
     let did : DriversServed (head_of stack) stack.filters after old new =
     subst (λ h. DriversServed h stack.filters after old new) (kept ∙ is) (subst (λ xs. DriversServed begun xs after old new) filters (subst (λ ts. DriversServed begun fs ts old new) (sym journal) served)) in
     record {
@@ -54,6 +79,8 @@ comes_back stacks s stack head begun fs handed others back old new turns after s
       protocols = new.protocols;
       miniports_are = miniports;
       protocols_are = protocols;
+      miniport_kind = kinds.miniport_is;
+      protocol_kinds = kinds.protocols_are;
       stood = takes_stand (head_of stack) handed.drivers others.drivers old.miniport old.protocols (subst (λ h. Takes h handed.drivers old.miniport old.protocols others.drivers) is takes);
       served = did.are;
       ran = did.ran;

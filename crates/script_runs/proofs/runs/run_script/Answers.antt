@@ -1,7 +1,7 @@
 use Rattle.std.proofs.Common.{ap, map}
 use Rattle.book_parts.specs.Parts.{view_of}
 use Rattle.book_opening.specs.Opened.{handed_of}
-use Rattle.script_runs.proofs.Back.{comes_back, enough_drivers, leaves_drivers}
+use Rattle.script_runs.proofs.Back.{are_of_kinds, comes_back, enough_drivers, leaves_drivers}
 use Rattle.script_runs.proofs.Only.{only_item, runnable, may_run, few_filters, fine_filters, calls_asked}
 use Rattle.script_runs.proofs.Run.{is_run}
 use Rattle.script_runs.proofs.runs.run_script.Goals as goal
@@ -51,6 +51,8 @@ returns-in-Ok-run_stack-clause-back g c =
     (ap (map g.F.FilterCalls.state) c.in-Ok-open.ensures.no_shelf) c.in-Ok-open.ensures.opened.head_is c.items-2.ensures c.in-Ok-run_stack.ensures.served c.close.ensures.turns c.close.ensures.miniports c.close.ensures.protocols
     (ap (λ v. map g.F.FilterCalls.state v.items) c.close.ensures.shelf) (ap (λ v. map g.F.FilterCalls.state v.items) c.in-Ok-open.ensures.filters)
     (c.in-Ok-run_stack.ensures.filters_served c.in-Ok-open.ensures.opened.shelved)
+    (are_of_kinds (view_of g.M.MiniportCalls.state g.P.ProtocolCalls.state g.F.FilterCalls.state c.in-Ok-open.opened.0) (view_of g.M.MiniportCalls.state g.P.ProtocolCalls.state g.F.FilterCalls.state c.run_stack.new.book) c.in-Ok-open.ensures.opened.book
+    c.in-Ok-open.ensures.opened.idle c.in-Ok-run_stack.ensures.whole.now.between.book c.in-Ok-run_stack.ensures.whole.now.between.idle c.in-Ok-run_stack.ensures.whole.head_is)
 
 pub returns-in-Ok-run_stack-clause-enough : goal.returns-in-Ok-run_stack-clause-enough
 returns-in-Ok-run_stack-clause-enough g c =
