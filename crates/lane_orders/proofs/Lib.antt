@@ -1,0 +1,3 @@
+mod Lanes
+mod Moves
+pub mod Kept
