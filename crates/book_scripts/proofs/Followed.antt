@@ -85,10 +85,10 @@ by_tail : {S : Type 0} (asks : S → Option Event) (goes : S → Reply → S) (a
 by_tail asks goes a b lane [] p = tt
 by_tail asks goes a b lane (x ∷ xs) p = (inr p.0, by_tail asks goes (goes a x.reply) b lane xs p.2)
 
-by_call : (lane : LaneNo) (e : Event) (pump : Bool) (xs : List Turn) → IsCall lane e pump xs → AllBy lane xs
+pub by_call : (lane : LaneNo) (e : Event) (pump : Bool) (xs : List Turn) → IsCall lane e pump xs → AllBy lane xs
 by_call lane e pump xs c = subst (AllBy lane) (sym c.all) (inl c.by, by_tail tail_asks tail_after (pumping_if pump (tail_of_call e c.call.reply)) tails.Ended lane c.tail c.follows)
 
-of_lane : (lane : LaneNo) (l : ℕ) (t : Turn) → IsBy lane t → is_of_lane l t.who ≡ (lane.0 == l)
+pub of_lane : (lane : LaneNo) (l : ℕ) (t : Turn) → IsBy lane t → is_of_lane l t.who ≡ (lane.0 == l)
 of_lane lane l t (inl is) = ap (is_of_lane l) is
 of_lane lane l t (inr is) = ap (is_of_lane l) is
 
@@ -118,7 +118,7 @@ help_step stacks lane cs tail t rest at asks by f =
     helped cs tail ((t ∷ rest) ∷ []) 0 t at (next_is lane.0 [] t rest tt mine) by asks
     (subst (λ (r : List Turn). Follows stacks lane cs (tail_after tail t.reply) (r ∷ [])) (sym (rest_is lane.0 [] t rest tt mine)) f)
 
-zero_stack : (n : ℕ) → (n == 0) ≡ true → n ≡ 0
+pub zero_stack : (n : ℕ) → (n == 0) ≡ true → n ≡ 0
 zero_stack n e = grind (arith, nat_tests, e)
 
 -- what is asked of the only stack is asked of stack 0
@@ -187,7 +187,7 @@ asks_stack head link s (ask.Remove filter) h = refl
 asks_stack head link s (ask.Replace filter kind setup) h = refl
 asks_stack head link s _ h = differ h
 
-same_lane : (a b : LaneNo) → (a.0 == b.0) ≡ true → a ≡ b
+pub same_lane : (a b : LaneNo) → (a.0 == b.0) ≡ true → a ≡ b
 same_lane a b e =
     let same : a.0 ≡ b.0 = grind (arith, nat_tests, e) in
     ap (λ (n : ℕ). let x : LaneNo = record { 0 = n } in x) same
@@ -196,7 +196,7 @@ other_lane : (a b : LaneNo) → (a.0 == b.0) ≡ false → a.0 ≢ b.0
 other_lane a b e is = differ (sym e ∙ eq-eqb a.0 b.0 is)
 
 -- a call of the lane and its tail, and then the rest
-follows_call : (stacks : List StackSetup) (head : StackHead) (lane : LaneNo) (c : Call) (cs : List Call) (front first rest : List Turn) → c.stack ≡ 0 → is_asked_event head (event_of c.kind) ≡ true → c.lane ≡ lane → NoneOf lane.0 front → Makes c first
+pub follows_call : (stacks : List StackSetup) (head : StackHead) (lane : LaneNo) (c : Call) (cs : List Call) (front first rest : List Turn) → c.stack ≡ 0 → is_asked_event head (event_of c.kind) ≡ true → c.lane ≡ lane → NoneOf lane.0 front → Makes c first
     → Follows stacks lane cs tails.Ended (rest ∷ []) → Follows stacks lane (c ∷ cs) tails.Ended ((front ++ (first ++ rest)) ∷ [])
 follows_call stacks head lane c cs front first rest zero built same n m f =
     let call : Turn = m.is.call in

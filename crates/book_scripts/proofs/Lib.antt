@@ -1,5 +1,6 @@
 pub mod Whole
 pub mod Followed
+pub mod Ordered
 pub mod Laws
 pub mod Served
 pub mod Seats

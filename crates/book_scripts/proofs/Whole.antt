@@ -1,8 +1,8 @@
 -- A run, call by call.
-use Rattle.std.proofs.Common.{◌≡◌, ◌⊎◌, inl, inr, ℕ, ◌≤◌, ◌<◌, ◌-◌, ◌&&◌, Bool, true, false, List, [], ◌∷◌, ◌++◌, Some, length, take, drop, get_or, refl, sym, ap, ap₂, subst, ◌∙◌, arith}
+use Rattle.std.proofs.Common.{◌≡◌, ◌⊎◌, inl, inr, ℕ, ◌≤◌, ◌<◌, ◌+◌, ◌&&◌, Bool, true, false, List, [], ◌∷◌, ◌++◌, Some, zero, suc, length, take, get_or, refl, sym, ap, subst, ◌∙◌, arith}
 use Rattle.std.specs.List.{list_all}
 use Rattle.std.proofs.lemmas.Bool.{cases_lt}
-use Rattle.std.proofs.lemmas.List.{append-nil, append_assoc, take_rest}
+use Rattle.std.proofs.lemmas.List.{append-nil, append_assoc, take_more}
 use Rattle.ndis_base.specs.declared.Phase.TheVariants as phase
 use Rattle.journal_types.specs.declared.Event.{Event}
 use Rattle.journal_types.specs.declared.StackHead.{StackHead}
@@ -79,25 +79,28 @@ makes c e x y is m = record {
   added = as_kind (IsCall c.lane e c.pump) (Makes c) (λ xs p. record { event = e; asked = sym is; is = p }) m.added;
 }
 
--- a call and the calls after it
-made_all : (c : Call) (cs : List Call) (x y z : BookView) → MakesOne c x y → MakesEach cs y z → MakesEach (c ∷ cs) x z
-made_all c cs x y z p q = record {
-  between = q.between;
-  head_is = q.head_is ∙ p.head_is;
-  added = both (Makes c) (MakesAll cs) (MakesAll (c ∷ cs)) (λ xs ys m n. (xs, ys, refl, m, n)) p.added q.added;
-}
+-- calls and one more
+makes_last : (cs : List Call) (c : Call) (xs ys : List Turn) → MakesAll cs xs → Makes c ys → MakesAll (cs ++ c ∷ []) (xs ++ ys)
+makes_last [] c xs ys m n = subst (λ (ts : List Turn). MakesAll (c ∷ []) (ts ++ ys)) (sym m) (ys, [], sym (append-nil ys), n, refl)
+makes_last (d ∷ cs) c xs ys m n = (m.0, m.1 ++ ys, ap (λ (ts : List Turn). ts ++ ys) m.2 ∙ append_assoc m.0 m.1 ys, m.3, makes_last cs c m.1 ys m.4 n)
 
--- the first call and the rest
-first_and_rest : (s : List Call) (c : Call) → 1 ≤ length s → c ≡ get_or s 0 c → c ∷ take (length s - 1) (drop 1 s) ≡ s
-first_and_rest [] c some is = absurd (omega arith)
-first_and_rest (x ∷ s) c some is = ap₂ (λ y ys. y ∷ ys) is (take_rest (x ∷ s) 1)
+pub made_none : (calls : List Call) (x : BookView) → IsBetween x → MakesEach (take 0 calls) x x
+made_none calls x k = record { between = k; head_is = refl; added = none_added (MakesAll []) x refl }
 
-pub made_first : (s : List Call) (c : Call) (x y z : BookView) → 1 ≤ length s → c ≡ get_or s 0 c → MakesOne c x y → MakesEach (take (length s - 1) (drop 1 s)) y z → MakesEach s x z
-made_first s c x y z some is p q = subst (λ cs. MakesEach cs x z) (first_and_rest s c some is) (made_all c (take (length s - 1) (drop 1 s)) x y z p q)
+pub made_more : (calls : List Call) (k : ℕ) (c : Call) (x y z : BookView) → k < length calls → c ≡ get_or calls k c → MakesEach (take k calls) x y → MakesOne c y z → MakesEach (take (k + 1) calls) x z
+made_more calls k c x y z less is p q =
+    subst (λ (cs : List Call). MakesEach cs x z) (ap (λ (d : Call). take k calls ++ d ∷ []) is ∙ sym (take_more calls k c less))
+    (record {
+      between = q.between;
+      head_is = q.head_is ∙ p.head_is;
+      added = both (MakesAll (take k calls)) (Makes c) (MakesAll (take k calls ++ c ∷ [])) (λ xs ys m n. makes_last (take k calls) c xs ys m n) p.added q.added;
+    })
 
-pub made_none : (s : List Call) (x : BookView) → length s < 1 → IsBetween x → MakesEach s x x
-made_none [] x none k = record { between = k; head_is = refl; added = none_added (MakesAll []) x refl }
-made_none (c ∷ s) x none k = absurd (omega arith)
+-- each of these calls can be asked
+pub asked_at : (p : Call → Bool) (calls : List Call) (k : ℕ) (d : Call) → list_all p calls ≡ true → k < length calls → p (get_or calls k d) ≡ true
+asked_at p [] k d all less = absurd (omega (arith, less))
+asked_at p (c ∷ calls) zero d all less = (both_true (p c) (list_all p calls) all).0
+asked_at p (c ∷ calls) (suc k) d all less = asked_at p calls k d (both_true (p c) (list_all p calls) all).1 (omega (arith, less))
 
 -- the calls can be asked of the opened stack too
 pub asked_opened : (s : List Call) (filters : List FilterSetup) (x y : BookView) → OpensStack filters x y → list_all (is_asked_call x.tray.head) s ≡ true → list_all (is_asked_call y.tray.head) s ≡ true

@@ -1,3 +1,4 @@
 pub mod Scripts
+pub mod Orders
 pub mod Laws
 pub mod Served

@@ -1,6 +1,6 @@
 -- What the bytes that were read say of the script.
 use Rattle.std.proofs.Common.{◌≡◌, ℕ, List, [], ◌∷◌, ◌++◌, Option, Some, None, Result, Ok, Err, true, false, refl, sym, ◌∙◌, ap, subst, arith}
-use Rattle.std.specs.Prelude.{IfSome, IsTrue}
+use Rattle.std.specs.Prelude.{IfSome, IsTrue, unwrap_or}
 use Rattle.std.proofs.lemmas.List.{append-nil}
 use Rattle.outside_io.specs.Edges.{before}
 use Rattle.flat_journal.specs.Flat.{FlatView}
@@ -14,6 +14,7 @@ use Rattle.script_types.specs.declared.ScriptFault.{ScriptFault}
 use Rattle.script_types.specs.declared.ScriptFault.TheVariants as fault
 use Rattle.script_forms.specs.Script.{Says, too_long, not_json, json, script_in}
 use Rattle.script_file.specs.Reads.{ReadsAs}
+use Rattle.command_words.specs.Words.{order_in, order_told}
 use Rattle.script_runs.specs.Built.{is_built, IsRun}
 use Rattle.ndis_cli.specs.declared.top.Status.{Status}
 use Rattle.ndis_cli.specs.declared.top.Status.TheVariants as status
@@ -185,13 +186,14 @@ pub lacks : (old : Option (List ℕ)) (script : Script) (parts : List HandedView
 lacks old script parts k is built few = record { script = script; is = is; built = built; only = few.0; lacks = few.1 }
 
 -- the report of a journal was begun
-pub replayed : (How : Option (List ℕ) → Option (List ℕ) → List ℕ → Type 0) (held held' : Option (List ℕ)) (script : Script) (journals : List FlatView) (journal : FlatView) (parts parts' : List HandedView)
-    → journals ≡ journal ∷ [] → IsRun script journal.head journal.turns → AreBack script.stacks journal.turns parts parts' → How held held' (report journals []) → Replayed How script parts parts' held held'
-replayed How held held' script journals journal parts parts' only ran back written =
+pub replayed : (How : Option (List ℕ) → Option (List ℕ) → List ℕ → Type 0) (held held' : Option (List ℕ)) (script : Script) (order : List ℕ) (journals : List FlatView) (journal : FlatView) (parts parts' : List HandedView)
+    → journals ≡ journal ∷ [] → IsRun script order journal.head journal.turns → AreBack script.stacks journal.turns parts parts' → How held held' (report journals []) → Replayed How script order parts parts' held held'
+replayed How held held' script order journals journal parts parts' only ran back written =
     record { journal = journal; ran = ran; back = back; written = subst (λ js. How held held' (report js [])) only written }
 
-pub wrote : (How : Option (List ℕ) → Option (List ℕ) → List ℕ → Type 0) (old held held' : Option (List ℕ)) (script : Script) (parts parts' : List HandedView) → IsOf old script → is_built script ≡ true → Replayed How script parts parts' held held' → Wrote How old parts parts' held held'
-wrote How old held held' script parts parts' is built r = record { script = script; is = is; built = built; replayed = r }
+pub wrote : (How : Option (List ℕ) → Option (List ℕ) → List ℕ → Type 0) (words : List (List ℕ)) (order order' : List ℕ) (old held held' : Option (List ℕ)) (script : Script) (parts parts' : List HandedView) → Some order ≡ order_in words → order' ≡ order → IsOf old script → is_built script ≡ true → Replayed How script order' parts parts' held held' → Wrote How (order_told words) old parts parts' held held'
+wrote How words order order' old held held' script parts parts' told same is built r =
+    record { script = script; is = is; built = built; replayed = subst (λ (o : List ℕ). Replayed How script o parts parts' held held') (same ∙ ap (λ (o : Option (List ℕ)). unwrap_or o []) told) r }
 
 -- what holds of the one script holds of what was read
 pub of-same : (P : Script → Type 0) (a b : Script) → a ≡ b → P a → P b

@@ -41,21 +41,21 @@ pub record AreBack (stacks : List StackSetup) (turns : List Turn) (parts parts' 
   pub returned : parts' ≡ now ∷ more
   pub back : ComesBack stacks turns first now
 
--- a script was run over the first of the parts: its journal is of its stack, sound, and as the laws and the
+-- a script was run in an order of lanes over the first of the parts: its journal is of its stack, sound, and as the laws and the
 -- script ask; the stack's drivers came back, and counted and logged what is promised of that journal; and what
 -- was written is the report of that journal, or, with AddsPrefix, a prefix of it
-pub record Replayed (How : Option (List ℕ) → Option (List ℕ) → List ℕ → Type 0) (script : Script) (parts parts' : List HandedView) (held held' : Option (List ℕ)) : Type 0 where
+pub record Replayed (How : Option (List ℕ) → Option (List ℕ) → List ℕ → Type 0) (script : Script) (order : List ℕ) (parts parts' : List HandedView) (held held' : Option (List ℕ)) : Type 0 where
   pub journal : FlatView
-  pub ran : IsRun script journal.head journal.turns
+  pub ran : IsRun script order journal.head journal.turns
   pub back : AreBack script.stacks journal.turns parts parts'
   pub written : How held held' (report (journal ∷ []) [])
 
--- the bytes are a script that can be run, and it was
-pub record Wrote (How : Option (List ℕ) → Option (List ℕ) → List ℕ → Type 0) (left : Option (List ℕ)) (parts parts' : List HandedView) (held held' : Option (List ℕ)) : Type 0 where
+-- the bytes are a script that can be run, and it was, in an order of lanes
+pub record Wrote (How : Option (List ℕ) → Option (List ℕ) → List ℕ → Type 0) (order : List ℕ) (left : Option (List ℕ)) (parts parts' : List HandedView) (held held' : Option (List ℕ)) : Type 0 where
   pub script : Script
   pub is : IsOf left script
   pub built : is_built script ≡ true
-  pub replayed : Replayed How script parts parts' held held'
+  pub replayed : Replayed How script order parts parts' held held'
 
 -- the bytes are a script that can be run
 pub record IsFine (left : Option (List ℕ)) : Type 0 where

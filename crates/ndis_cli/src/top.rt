@@ -6,14 +6,15 @@ ghost use Rattle.script_types.specs.declared.ScriptCause.{ScriptCause};
 ghost use Rattle.book_opening.specs.Opened.{AreIdle, handed_of};
 ghost use Rattle.script_runs.specs.Built.{is_built, IsRun};
 ghost use Rattle.script_runs.specs.Drivers.{LacksDrivers, ComesBack};
-ghost use Rattle.ndis_cli.specs.Words as form;
+ghost use Rattle.command_words.specs.Words as form;
 ghost use Rattle.ndis_cli.specs.Answers.{IsOf, IsFaulty, AddsAll, AreBack, Replayed, Wrote, IsFine, LacksFirst, LacksParts, is_early, ends_reading, ends_replay, IsDone, IsWanting};
 
-use crate::words::is_form;
 use book_opening::StackDrivers;
+use command_words::order_of;
 use driver_calls::{FilterCalls, MiniportCalls, ProtocolCalls};
 use flat_journal::FlatJournal;
 use flat_report::write_flat_report;
+use ndis_base::OutOfMemory;
 use outside_io::{ReadRefusal, Sink, Source, read_all};
 use run_report::ReportFault;
 use script_file::read_script;
@@ -73,9 +74,9 @@ pub fn ndis_serial<S: Source, K: Sink, M: MiniportCalls, P: ProtocolCalls, F: Fi
     ensures read_fault { result ≡ Status.ReadFault → Rose (S.faults source.old) (S.faults source.new) }
     ensures write_fault { result ≡ Status.WriteFault → Rose (K.faults sink.old) (K.faults sink.new) }
     // The report of a run of the script, whole, or a prefix of one.
-    ensures done { result ≡ Status.Done → Wrote AddsAll (S.left source.old) (map (λ p. handed_of M.state P.state F.state p) parts.old.items) (map (λ p. handed_of M.state P.state F.state p) parts.new.items) (K.holds sink.old) (K.holds sink.new) }
-    ensures cut { result ≡ Status.WriteFault → Wrote AddsPrefix (S.left source.old) (map (λ p. handed_of M.state P.state F.state p) parts.old.items) (map (λ p. handed_of M.state P.state F.state p) parts.new.items) (K.holds sink.old) (K.holds sink.new) }
-    ensures memory { result ≡ Status.Memory → (K.holds sink.new ≡ K.holds sink.old) ⊎ Wrote AddsPrefix (S.left source.old) (map (λ p. handed_of M.state P.state F.state p) parts.old.items) (map (λ p. handed_of M.state P.state F.state p) parts.new.items) (K.holds sink.old) (K.holds sink.new) }
+    ensures done { result ≡ Status.Done → Wrote AddsAll (form.order_told (map (λ w. string_bytes w) words.now)) (S.left source.old) (map (λ p. handed_of M.state P.state F.state p) parts.old.items) (map (λ p. handed_of M.state P.state F.state p) parts.new.items) (K.holds sink.old) (K.holds sink.new) }
+    ensures cut { result ≡ Status.WriteFault → Wrote AddsPrefix (form.order_told (map (λ w. string_bytes w) words.now)) (S.left source.old) (map (λ p. handed_of M.state P.state F.state p) parts.old.items) (map (λ p. handed_of M.state P.state F.state p) parts.new.items) (K.holds sink.old) (K.holds sink.new) }
+    ensures memory { result ≡ Status.Memory → (K.holds sink.new ≡ K.holds sink.old) ⊎ Wrote AddsPrefix (form.order_told (map (λ w. string_bytes w) words.now)) (S.left source.old) (map (λ p. handed_of M.state P.state F.state p) parts.old.items) (map (λ p. handed_of M.state P.state F.state p) parts.new.items) (K.holds sink.old) (K.holds sink.new) }
     // Where nothing was run nothing is written, and the drivers are as they were.
     ensures silent { IsTrue (is_early result) → K.holds sink.new ≡ K.holds sink.old }
     ensures kept { IsTrue (is_early result) → parts.new.items ≡ parts.old.items }
@@ -85,11 +86,13 @@ pub fn ndis_serial<S: Source, K: Sink, M: MiniportCalls, P: ProtocolCalls, F: Fi
     ensures complete { form.is_form (map (λ w. string_bytes w) words.now) ≢ false → (fine : IsFine (S.left source.old)) → ¬ LacksFirst fine.script (map (λ p. handed_of M.state P.state F.state p) parts.old.items) → ¬ Rose (S.faults source.old) (S.faults source.new) → ¬ Rose (K.faults sink.old) (K.faults sink.new) → IsDone result }
     ensures lacking { form.is_form (map (λ w. string_bytes w) words.now) ≢ false → (fine : IsFine (S.left source.old)) → LacksFirst fine.script (map (λ p. handed_of M.state P.state F.state p) parts.old.items) → ¬ Rose (S.faults source.old) (S.faults source.new) → IsWanting result }
 {
-    if !is_form(words) {
-        return Status::Usage;
-    }
+    let order = match order_of(alloc, words) {
+        Ok(Some(order)) => order,
+        Ok(None) => return Status::Usage,
+        Err(OutOfMemory) => return Status::Memory,
+    };
     match read_built(alloc, source) {
-        Ok(script) => replay(alloc, &script, sink, parts),
+        Ok(script) => replay(alloc, &script, order.as_slice(), sink, parts),
         Err(status) => status,
     }
 }
@@ -130,10 +133,11 @@ fn read_built<S: Source>(alloc: Global, source: &mut S) -> Result<Script, Status
     Ok(script)
 }
 
-/// Runs a script over the first of the parts and writes its report.
+/// Runs a script in an order of lanes over the first of the parts, and writes its report.
 fn replay<K: Sink, M: MiniportCalls, P: ProtocolCalls, F: FilterCalls>(
     alloc: Global,
     script: &Script,
+    order: &[u8],
     sink: &mut K,
     parts: &mut Vec<StackDrivers<M, P, F>>,
 ) -> Status
@@ -142,16 +146,16 @@ fn replay<K: Sink, M: MiniportCalls, P: ProtocolCalls, F: FilterCalls>(
     ensures late { IsTrue (ends_replay result) }
     ensures lacks { (k : ℕ) → result ≡ Status.NoParts k → (k ≡ 0) × LacksFirst script.now (map (λ p. handed_of M.state P.state F.state p) parts.old.items) }
     ensures fault { result ≡ Status.WriteFault → Rose (K.faults sink.old) (K.faults sink.new) }
-    ensures done { result ≡ Status.Done → Replayed AddsAll script.now (map (λ p. handed_of M.state P.state F.state p) parts.old.items) (map (λ p. handed_of M.state P.state F.state p) parts.new.items) (K.holds sink.old) (K.holds sink.new) }
-    ensures cut { result ≡ Status.WriteFault → Replayed AddsPrefix script.now (map (λ p. handed_of M.state P.state F.state p) parts.old.items) (map (λ p. handed_of M.state P.state F.state p) parts.new.items) (K.holds sink.old) (K.holds sink.new) }
-    ensures memory { result ≡ Status.Memory → (K.holds sink.new ≡ K.holds sink.old) ⊎ Replayed AddsPrefix script.now (map (λ p. handed_of M.state P.state F.state p) parts.old.items) (map (λ p. handed_of M.state P.state F.state p) parts.new.items) (K.holds sink.old) (K.holds sink.new) }
+    ensures done { result ≡ Status.Done → Replayed AddsAll script.now order.now (map (λ p. handed_of M.state P.state F.state p) parts.old.items) (map (λ p. handed_of M.state P.state F.state p) parts.new.items) (K.holds sink.old) (K.holds sink.new) }
+    ensures cut { result ≡ Status.WriteFault → Replayed AddsPrefix script.now order.now (map (λ p. handed_of M.state P.state F.state p) parts.old.items) (map (λ p. handed_of M.state P.state F.state p) parts.new.items) (K.holds sink.old) (K.holds sink.new) }
+    ensures memory { result ≡ Status.Memory → (K.holds sink.new ≡ K.holds sink.old) ⊎ Replayed AddsPrefix script.now order.now (map (λ p. handed_of M.state P.state F.state p) parts.old.items) (map (λ p. handed_of M.state P.state F.state p) parts.new.items) (K.holds sink.old) (K.holds sink.new) }
     ensures silent { (k : ℕ) → result ≡ Status.NoParts k → K.holds sink.new ≡ K.holds sink.old }
     ensures kept { (k : ℕ) → result ≡ Status.NoParts k → parts.new.items ≡ parts.old.items }
     ensures idle { All AreIdle (map (λ p. handed_of M.state P.state F.state p) parts.new.items) }
     ensures complete { ¬ LacksFirst script.now (map (λ p. handed_of M.state P.state F.state p) parts.old.items) → ¬ Rose (K.faults sink.old) (K.faults sink.new) → IsDone result }
     ensures lacking { LacksFirst script.now (map (λ p. handed_of M.state P.state F.state p) parts.old.items) → IsWanting result }
 {
-    let journal = match run_first(alloc, script, parts) {
+    let journal = match run_first(alloc, script, order, parts) {
         Ok(journal) => journal,
         Err(status) => return status,
     };
@@ -162,15 +166,16 @@ fn replay<K: Sink, M: MiniportCalls, P: ProtocolCalls, F: FilterCalls>(
     }
 }
 
-/// Runs a script over the first of the parts, where there is one.
+/// Runs a script in an order of lanes over the first of the parts, where there is one.
 fn run_first<M: MiniportCalls, P: ProtocolCalls, F: FilterCalls>(
     alloc: Global,
     script: &Script,
+    order: &[u8],
     parts: &mut Vec<StackDrivers<M, P, F>>,
 ) -> Result<FlatJournal, Status>
     requires built { is_built script.now ≡ true }
     requires idle { All AreIdle (map (λ p. handed_of M.state P.state F.state p) parts.old.items) }
-    ensures run { IfOk result (λ journal. IsRun script.now journal.head journal.turns) }
+    ensures run { IfOk result (λ journal. IsRun script.now order.now journal.head journal.turns) }
     ensures back { IfOk result (λ journal. AreBack script.now.stacks journal.turns (map (λ p. handed_of M.state P.state F.state p) parts.old.items) (map (λ p. handed_of M.state P.state F.state p) parts.new.items)) }
     ensures enough { OnOk result (¬ LacksFirst script.now (map (λ p. handed_of M.state P.state F.state p) parts.old.items)) }
     ensures wanting { IfErr result (λ status. IsWanting status) }
@@ -181,7 +186,7 @@ fn run_first<M: MiniportCalls, P: ProtocolCalls, F: FilterCalls>(
     if parts.is_empty() {
         return Err(Status::NoParts { stack: 0 });
     }
-    match run_over(alloc, script, &mut parts[0]) {
+    match run_over(alloc, script, order, &mut parts[0]) {
         Ok(journal) => Ok(journal),
         Err(RunFault::NoParts) => Err(Status::NoParts { stack: 0 }),
         Err(RunFault::Memory) => Err(Status::Memory),
@@ -189,16 +194,17 @@ fn run_first<M: MiniportCalls, P: ProtocolCalls, F: FilterCalls>(
     }
 }
 
-/// Runs a script over a stack's drivers, which come back to where they were, unless they are lost for
+/// Runs a script in an order of lanes over a stack's drivers, which come back to where they were, unless they are lost for
 /// want of memory: then the others stand there.
 fn run_over<M: MiniportCalls, P: ProtocolCalls, F: FilterCalls>(
     alloc: Global,
     script: &Script,
+    order: &[u8],
     parts: &mut StackDrivers<M, P, F>,
 ) -> Result<FlatJournal, RunFault>
     requires built { is_built script.now ≡ true }
     requires idle { AreIdle (handed_of M.state P.state F.state parts.old) }
-    ensures run { IfOk result (λ journal. IsRun script.now journal.head journal.turns) }
+    ensures run { IfOk result (λ journal. IsRun script.now order.now journal.head journal.turns) }
     ensures back { IfOk result (λ journal. ComesBack script.now.stacks journal.turns (handed_of M.state P.state F.state parts.old) (handed_of M.state P.state F.state parts.new)) }
     ensures enough { OnOk result (¬ LacksDrivers script.now.stacks (handed_of M.state P.state F.state parts.old)) }
     ensures lacks { IfErr result (λ e. e ≡ RunFault.NoParts → LacksDrivers script.now.stacks (handed_of M.state P.state F.state parts.old)) }
@@ -206,7 +212,7 @@ fn run_over<M: MiniportCalls, P: ProtocolCalls, F: FilterCalls>(
     ensures idle { AreIdle (handed_of M.state P.state F.state parts.new) }
 {
     let first = std::mem::replace(parts, no_parts(alloc));
-    match run_script(alloc, script, first) {
+    match run_script(alloc, script, order, first) {
         Ok((first, journal)) => {
             put_back(parts, first);
             Ok(journal)

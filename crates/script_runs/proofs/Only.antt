@@ -1,5 +1,5 @@
 -- A script of one stack that can be run.
-use Rattle.std.proofs.Common.{◌≡◌, ℕ, ◌&&◌, ◌<◌, ◌≤◌, ◌==◌, nat_le, Bool, true, false, List, [], ◌∷◌, All, length, get_or, refl, sym, ap, ◌∙◌, subst, arith}
+use Rattle.std.proofs.Common.{◌≡◌, ℕ, ◌&&◌, ◌<◌, ◌≤◌, nat_le, Bool, true, false, List, [], ◌∷◌, All, length, get_or, refl, sym, ap, ◌∙◌, subst, arith}
 use Rattle.std.proofs.lemmas.Bool.Decides.{nat_tests}
 use Rattle.std.proofs.lemmas.List.Elements.{All-nil}
 use Rattle.std.specs.List.{list_all}
@@ -21,6 +21,7 @@ use Rattle.book_lemmas.specs.Views.{BookView}
 use Rattle.book_parts.proofs.Ended.{idle_state}
 use Rattle.book_opening.specs.Opened.{IsOpenedBook}
 use Rattle.book_runs.specs.Runs.{IsInPhase, is_fine}
+use Rattle.lane_orders.specs.Orders.{is_below}
 use Rattle.book_scripts.specs.Scripts.{is_asked_call}
 use Rattle.script_runs.specs.Built as form
 
@@ -69,7 +70,7 @@ all_asked head (c ∷ cs) e =
 
 pub runnable : (script : Script) (s : List StackSetup) (stack : StackSetup) (cs : List Call) → form.is_built script ≡ true → s ≡ script.stacks → s ≡ stack ∷ [] → cs ≡ script.calls → IsRunnable stack cs
 runnable script s stack cs built same only calls =
-    let are : form.are_built script.stacks script.calls ≡ true = (both_true (script.lanes == 1) (form.are_built script.stacks script.calls) built).1 in
+    let are : form.are_built script.stacks script.calls ≡ true = (both_true (list_all (is_below script.lanes) script.calls) (form.are_built script.stacks script.calls) built).1 in
     let one : form.are_built (stack ∷ []) script.calls ≡ true = ap (λ ss. form.are_built ss script.calls) (sym only ∙ same) ∙ are in
     let a = both_true (form.is_built_stack stack) (list_all (form.is_built_call (form.head_of stack)) script.calls) one in
     let b = both_true (form.is_built_miniport stack.miniport.kind) _ a.0 in
@@ -102,6 +103,9 @@ few_filters stack calls fs r same = subst (λ (xs : List FilterSetup). length xs
 
 pub fine_filters : (stack : StackSetup) (calls : List Call) (fs : List FilterSetup) → IsRunnable stack calls → fs ≡ stack.filters → list_all is_fine fs ≡ true
 fine_filters stack calls fs r same = ap (list_all is_fine) same ∙ r.fine
+
+pub calls_below : (script : Script) (cs : List Call) → form.is_built script ≡ true → cs ≡ script.calls → list_all (is_below script.lanes) cs ≡ true
+calls_below script cs built calls = ap (list_all (is_below script.lanes)) calls ∙ (both_true (list_all (is_below script.lanes) script.calls) (form.are_built script.stacks script.calls) built).0
 
 pub calls_asked : (stack : StackSetup) (calls : List Call) (begun head : StackHead) → IsRunnable stack calls → begun ≡ head → head ≡ form.head_of stack → list_all (is_asked_call begun) calls ≡ true
 calls_asked stack calls begun head r kept is = ap (λ (h : StackHead). list_all (is_asked_call h) calls) (kept ∙ is) ∙ r.asked

@@ -1,5 +1,5 @@
 -- Which scripts can be run, and what their run gives.
-use Rattle.std.specs.Prelude.{◌≡◌, ℕ, ◌==◌, ◌&&◌, nat_le, Bool, true, false, List, [], ◌∷◌, length}
+use Rattle.std.specs.Prelude.{◌≡◌, ℕ, ◌&&◌, nat_le, Bool, true, false, List, [], ◌∷◌, length}
 use Rattle.std.specs.List.{list_all}
 use Rattle.ndis_base.specs.declared.FilterKind.{FilterKind}
 use Rattle.ndis_base.specs.declared.FilterKind.TheVariants as filter_kind
@@ -19,7 +19,9 @@ use Rattle.script_types.specs.declared.Call.{Call}
 use Rattle.script_types.specs.declared.CallKind.{CallKind}
 use Rattle.script_types.specs.declared.CallKind.TheVariants as ask
 use Rattle.promise_rules.specs.Followed.{IsFollowed, IsOpenedAndEnded}
+use Rattle.lane_orders.specs.Orders.{is_below, ordered}
 use Rattle.book_scripts.specs.Laws.{MeetsLaws}
+use Rattle.book_scripts.specs.Orders.{CallsInOrder}
 use Rattle.book_scripts.specs.Scripts.{is_asked_call}
 
 -- the head of the journal of a script's only stack
@@ -64,13 +66,14 @@ abbrev pub are_built : List StackSetup → List Call → Bool
 are_built (s ∷ []) calls = is_built_stack s && list_all (is_built_call (head_of s)) calls
 are_built _ calls = false
 
--- a script that can be run: one lane and one stack
+-- a script that can be run: one stack, and calls of the script's lanes
 abbrev pub is_built : Script → Bool
-is_built s = (s.lanes == 1) && are_built s.stacks s.calls
+is_built s = list_all (is_below s.lanes) s.calls && are_built s.stacks s.calls
 
--- the journal of a run: of the script's stack, and sound; it ends Halted, and meets the laws; each lane's
--- calls stand there once and in order, each with its tail, between the opening and the ending
-pub record IsRun (script : Script) (head : StackHead) (turns : List Turn) : Type 0 where
+-- the journal of a run in an order of lanes: of the script's stack, and sound; it ends Halted, and meets the laws;
+-- each lane's calls stand there once and in order, each with its tail, between the opening and the ending; and all
+-- calls stand in the order that is asked for, each together with its tail
+pub record IsRun (script : Script) (order : List ℕ) (head : StackHead) (turns : List Turn) : Type 0 where
   pub stack : StackSetup
   pub only : script.stacks ≡ stack ∷ []
   pub head_is : head ≡ head_of stack
@@ -78,3 +81,4 @@ pub record IsRun (script : Script) (head : StackHead) (turns : List Turn) : Type
   pub laws : MeetsLaws head turns
   pub followed : (lane : LaneNo) → IsFollowed script.stacks lane script.calls (turns ∷ [])
   pub ended : IsOpenedAndEnded head stack.filters turns
+  pub in_order : CallsInOrder script.stacks head stack.filters (ordered script.lanes order script.calls) turns

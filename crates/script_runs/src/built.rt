@@ -4,6 +4,7 @@ ghost use Rattle.std.specs.List.{list_all};
 ghost use Rattle.stack_rules.specs.Conditions.{is_cancel, is_frame, are_frames, is_fine_test, is_program, is_setup};
 ghost use Rattle.journal_types.specs.declared.StackHead.{StackHead};
 ghost use Rattle.script_events.specs.Events.{event_of};
+ghost use Rattle.lane_orders.specs.Orders.{is_below};
 ghost use Rattle.book_scripts.specs.Scripts.{is_asked_event, is_asked_call};
 ghost use Rattle.script_runs.specs.Built as form;
 
@@ -13,17 +14,23 @@ use program_types::{Rule, Test};
 use script_types::{Call, CallKind, FilterSetup, Script, StackSetup};
 use std::alloc::Global;
 
-/// Whether a script can be run: one lane; one stack of an adapter with a ring, of 1 to 8 protocols that
+/// Whether a script can be run: one stack of an adapter with a ring, of 1 to 8 protocols that
 /// log, retain or echo, and of at most 16 filters that pass, hold or count; and calls that send, transmit,
 /// pump, drain, pause, restart, or change the filters by such.
 pub fn is_built(script: &Script) -> bool
     ensures { result ≡ form.is_built script.now }
 {
-    script.lanes == 1
+    are_below(script.lanes, script.calls.items())
         && match script.stacks.items() {
             [stack] => is_built_stack(stack) && are_built_calls(stack, script.calls.items()),
             _ => false,
         }
+}
+
+fn are_below(lanes: u8, calls: &[Call]) -> bool
+    ensures { result ≡ list_all (is_below lanes) calls.now }
+{
+    calls.iter().all(|call| call.lane.0 < lanes)
 }
 
 fn is_built_stack(stack: &StackSetup) -> bool
@@ -112,10 +119,7 @@ fn is_fine_test(test: Test) -> bool
 fn are_built_calls(stack: &StackSetup, calls: &[Call]) -> bool
     ensures { result ≡ list_all (form.is_built_call (form.head_of stack.now)) calls.now }
 {
-    match calls {
-        [first, rest @ ..] => is_built_call(stack, first) && are_built_calls(stack, rest),
-        [] => true,
-    }
+    calls.iter().all(|call| is_built_call(stack, call))
 }
 
 fn is_built_call(stack: &StackSetup, call: &Call) -> bool

@@ -22,17 +22,19 @@ pub enum RunFault {
     Lost,
 }
 
-/// Runs a script over the drivers that are handed in: opens its stack, makes its calls in order, each
-/// with its tail, ends the stack, and gives the drivers back with the journal. After a fault they come
-/// back as they were, or where they are lost the others do.
+/// Runs a script over the drivers that are handed in: opens its stack, makes its calls in an order of lanes
+/// (for each lane its next call, a lane without calls left being skipped, and then the rest, lane by lane in
+/// rising order), each with its tail, ends the stack, and gives the drivers back with the journal. After a
+/// fault they come back as they were, or where they are lost the others do.
 pub fn run_script<M: MiniportCalls, P: ProtocolCalls, F: FilterCalls>(
     alloc: Global,
     script: &Script,
+    order: &[u8],
     drivers: StackDrivers<M, P, F>,
 ) -> Result<(StackDrivers<M, P, F>, FlatJournal), (StackDrivers<M, P, F>, RunFault)>
     requires built { form.is_built script.now ≡ true }
     requires idle { AreIdle (handed_of M.state P.state F.state drivers) }
-    ensures run { IfOk result (λ r. form.IsRun script.now r.1.head r.1.turns) }
+    ensures run { IfOk result (λ r. form.IsRun script.now order.now r.1.head r.1.turns) }
     ensures back { IfOk result (λ r. ComesBack script.now.stacks r.1.turns (handed_of M.state P.state F.state drivers) (handed_of M.state P.state F.state r.0)) }
     ensures enough { IfOk result (λ r. ¬ LacksDrivers script.now.stacks (handed_of M.state P.state F.state drivers)) }
     ensures lacks { IfErr result (λ e. e.1 ≡ RunFault.NoParts → LacksDrivers script.now.stacks (handed_of M.state P.state F.state drivers)) }
@@ -56,7 +58,9 @@ pub fn run_script<M: MiniportCalls, P: ProtocolCalls, F: FilterCalls>(
         &mut book,
         alloc,
         stack.filters.items(),
+        script.lanes,
         script.calls.items(),
+        order,
     ) {
         Ok(()) => Ok(close(book, others)),
         Err(OutOfMemory) => {

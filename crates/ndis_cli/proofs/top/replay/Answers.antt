@@ -6,12 +6,12 @@ use Rattle.ndis_cli.proofs.top.replay.Goals as goal
 
 pub returns-in-Ok-write_flat_report-clause-done : goal.returns-in-Ok-write_flat_report-clause-done
 returns-in-Ok-write_flat_report-clause-done g c e =
-    replayed AddsAll _ _ c.args.script.now _ c.in-Ok.journal _ _ c.from_ref.ensures.value c.in-Ok.ensures.run c.in-Ok.ensures.back c.in-Ok-write_flat_report.ensures.whole
+    replayed AddsAll _ _ c.args.script.now c.args.order.now _ c.in-Ok.journal _ _ c.from_ref.ensures.value c.in-Ok.ensures.run c.in-Ok.ensures.back c.in-Ok-write_flat_report.ensures.whole
 
 pub returns-in-Err-Failed-clause-cut : goal.returns-in-Err-Failed-clause-cut
 returns-in-Err-Failed-clause-cut g c e =
-    replayed AddsPrefix _ _ c.args.script.now _ c.in-Ok.journal _ _ c.from_ref.ensures.value c.in-Ok.ensures.run c.in-Ok.ensures.back c.in-Err-Failed.ensures.prefix
+    replayed AddsPrefix _ _ c.args.script.now c.args.order.now _ c.in-Ok.journal _ _ c.from_ref.ensures.value c.in-Ok.ensures.run c.in-Ok.ensures.back c.in-Err-Failed.ensures.prefix
 
 pub returns-clause-memory : goal.returns-clause-memory
 returns-clause-memory g c e =
-    inr (replayed AddsPrefix _ _ c.args.script.now _ c.in-Ok.journal _ _ c.from_ref.ensures.value c.in-Ok.ensures.run c.in-Ok.ensures.back c.in-Err-Memory.ensures.prefix)
+    inr (replayed AddsPrefix _ _ c.args.script.now c.args.order.now _ c.in-Ok.journal _ _ c.from_ref.ensures.value c.in-Ok.ensures.run c.in-Ok.ensures.back c.in-Err-Memory.ensures.prefix)

@@ -2,7 +2,7 @@ use Rattle.std.proofs.Common.{ap, map}
 use Rattle.book_parts.specs.Parts.{view_of}
 use Rattle.book_opening.specs.Opened.{handed_of}
 use Rattle.script_runs.proofs.Back.{are_of_kinds, comes_back, enough_drivers, leaves_drivers}
-use Rattle.script_runs.proofs.Only.{only_item, runnable, may_run, few_filters, fine_filters, calls_asked}
+use Rattle.script_runs.proofs.Only.{only_item, runnable, may_run, few_filters, fine_filters, calls_asked, calls_below}
 use Rattle.script_runs.proofs.Run.{is_run}
 use Rattle.script_runs.proofs.runs.run_script.Goals as goal
 
@@ -32,12 +32,15 @@ run_stack-requires-clause-asked g c =
     (only_item c.items.result.now c.stack-item.result c.in-len1.len_at_least c.in-len1.len_below c.stack-item.is) c.items-3.ensures)
     c.in-Ok-open.ensures.opened.head_is c.in-Ok.ensures
 
+pub run_stack-requires-clause-below : goal.run_stack-requires-clause-below
+run_stack-requires-clause-below g c = calls_below c.args.script.now c.items-3.result.now c.requires.built c.items-3.ensures
+
 pub returns-in-Ok-run_stack-clause-run : goal.returns-in-Ok-run_stack-clause-run
 returns-in-Ok-run_stack-clause-run g c =
-    is_run c.args.script.now c.items.result.now c.stack-item.result c.items-3.result.now c.items-2.result.now c.in-Ok.head c.close.result.1.head c.close.result.1.turns
+    is_run c.args.script.now c.args.order.now c.items.result.now c.stack-item.result c.items-3.result.now c.items-2.result.now c.in-Ok.head c.close.result.1.head c.close.result.1.turns
     (view_of g.M.MiniportCalls.state g.P.ProtocolCalls.state g.F.FilterCalls.state c.in-Ok-open.opened.0) (view_of g.M.MiniportCalls.state g.P.ProtocolCalls.state g.F.FilterCalls.state c.run_stack.new.book) c.items.ensures
     (only_item c.items.result.now c.stack-item.result c.in-len1.len_at_least c.in-len1.len_below c.stack-item.is)
-    c.items-3.ensures c.items-2.ensures c.in-Ok.ensures c.in-Ok-open.ensures.opened.head_is c.in-Ok-run_stack.ensures.whole c.in-Ok-run_stack.ensures.followed c.in-Ok-run_stack.ensures.laws c.in-Ok-run_stack.ensures.sound
+    c.items-3.ensures c.items-2.ensures c.in-Ok.ensures c.in-Ok-open.ensures.opened.head_is c.in-Ok-run_stack.ensures.whole c.in-Ok-run_stack.ensures.in_order c.in-Ok-run_stack.ensures.followed c.in-Ok-run_stack.ensures.laws c.in-Ok-run_stack.ensures.sound
     c.in-Ok-run_stack.ensures.served c.close.ensures.head c.close.ensures.turns
 
 pub returns-in-Ok-run_stack-clause-back : goal.returns-in-Ok-run_stack-clause-back
