@@ -19,23 +19,24 @@ use Rattle.hand_lemmas.proofs.Tells.{kept_there}
 use Rattle.call_lemmas.proofs.Miniports.{home_row}
 
 -- the first that passes one test fails another where nothing passes both
+none_passes : {X : Type 0} (b : Bool) (y : X) (ys : List X) → b ≡ true → cond b (y ∷ ys) ys ≡ [] → ⊥
+none_passes true y ys h none = cc
+none_passes false y ys h none = cc
+
+no_later : {X : Type 0} (b : Bool) (y : X) (ys : List X) → cond b (y ∷ ys) ys ≡ [] → ys ≡ []
+no_later true y ys none = absurd cc
+no_later false y ys none = none
+
+fails_here : {X : Type 0} (p q : X → Bool) (y : X) (ys : List X) (x : X) (a b : Bool) → p y ≡ a → q y ≡ b → cond a (Some y) (find p ys) ≡ Some x → filter p (cond b (y ∷ filter q ys) (filter q ys)) ≡ []
+    → (find p ys ≡ Some x → filter p (filter q ys) ≡ [] → q x ≡ false) → q x ≡ false
+fails_here p q y ys x true true here also e none more = absurd (none_passes (p y) y (filter p (filter q ys)) here none)
+fails_here p q y ys x true false here other e none more = let same : y ≡ x = cc in ap q (sym same) ∙ other
+fails_here p q y ys x false true there also e none more = more e (no_later (p y) y (filter p (filter q ys)) none)
+fails_here p q y ys x false false there other e none more = more e none
+
 first_fails : {X : Type 0} (p q : X → Bool) (xs : List X) (x : X) → find p xs ≡ Some x → filter p (filter q xs) ≡ [] → q x ≡ false
 first_fails p q [] x e none = absurd cc
-first_fails p q (y ∷ ys) x e none = by_case (p y) (q y) refl refl e none
-  where
-    by_case : (a b : Bool) → p y ≡ a → q y ≡ b → cond a (Some y) (find p ys) ≡ Some x → filter p (cond b (y ∷ filter q ys) (filter q ys)) ≡ [] → q x ≡ false
-    by_case true true h k found none = absurd (passes (p y) h none)
-      where
-        passes : (c : Bool) → c ≡ true → cond c (y ∷ filter p (filter q ys)) (filter p (filter q ys)) ≡ [] → ⊥
-        passes true h none = cc
-        passes false h none = cc
-    by_case true false h k found none = let same : y ≡ x = cc in ap q (sym same) ∙ k
-    by_case false true h k found none = first_fails p q ys x found (passed_by (p y) h none)
-      where
-        passed_by : (c : Bool) → c ≡ false → cond c (y ∷ filter p (filter q ys)) (filter p (filter q ys)) ≡ [] → filter p (filter q ys) ≡ []
-        passed_by true h none = absurd cc
-        passed_by false h none = none
-    by_case false false h k found none = first_fails p q ys x found none
+first_fails p q (y ∷ ys) x e none = fails_here p q y ys x (p y) (q y) refl refl e none (first_fails p q ys x)
 
 nothing_left : (ls : List LiveList) → map in_hand [] ≡ map in_state ls → ls ≡ []
 nothing_left [] e = refl

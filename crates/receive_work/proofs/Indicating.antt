@@ -108,14 +108,17 @@ lacked_event old t made k i running r full =
 book_is : {new : BookView} {t : TrayView} {h : HeldView} → new.tray ≡ t → new.held ≡ h → record { tray = t; held = h } ≡ new
 book_is {new} {t} {h} e f = ap (λ x. record { tray = x; held = h }) (sym e) ∙ ap (λ x. record { tray = new.tray; held = x }) (sym f)
 
+runs_before : {old t : TrayView} → IsRoomed old t → state.Running ≡ t.net.modules.miniport → old.net.modules.miniport ≡ state.Running
+runs_before r e = sym (e ∙ ap (λ (n : Net). n.modules.miniport) r.begins.net)
+
 -- an indication while the miniport runs
-pub indicated_event : (old : BookView) (t : TrayView) (new : BookView) (made : List (List ℕ)) (r : FlatReply) → IsBook old → IsIdle old → old.tray.net.modules.miniport ≡ state.Running
+pub indicated_event : (old : BookView) (t : TrayView) (new : BookView) (made : List (List ℕ)) (r : FlatReply) → IsBook old → IsIdle old → state.Running ≡ t.net.modules.miniport
     → may_ask old.tray.head (event.Indicate made) ≡ true → IsRoomed old.tray t → Indicates made (record { tray = t; held = old.held }) new r → IsDone old new (event.Indicate made) (reply_of new.tray.payloads r)
 indicated_event old t new made r k i running may roomed (starts s some held) =
     subst (λ (v : BookView). IsDone old v (event.Indicate made) (reply.Indicated (list_no t.net.next.list))) (book_is s.tray (held ∙ ap (miniport_pooled old.held) s.pool_is))
-    (started_event old t s.mid made k i running (frames_sized old.tray.head made may) roomed s.starts some)
+    (started_event old t s.mid made k i (runs_before roomed running) (frames_sized old.tray.head made may) roomed s.starts some)
 indicated_event old t new made r k i running may roomed (lacks full tray held) =
-    subst (λ (v : BookView). IsDone old v (event.Indicate made) (reply.Refused refusal.NoList)) (book_is tray held) (lacked_event old t made k i running roomed full)
+    subst (λ (v : BookView). IsDone old v (event.Indicate made) (reply.Refused refusal.NoList)) (book_is tray held) (lacked_event old t made k i (runs_before roomed running) roomed full)
 
 pub indicated_within : {made : List (List ℕ)} {old new : BookView} {r : FlatReply} → Indicates made old new r → ReplyWithin new.tray.payloads r
 indicated_within (starts s some held) = tt
@@ -134,7 +137,7 @@ still state.Restarting ne = refl
 still state.Running ne = absurd (ne refl)
 still state.Pausing ne = refl
 
-pub stopped_event : (old : BookView) (t : TrayView) (made : List (List ℕ)) → IsBook old → IsIdle old → old.tray.net.modules.miniport ≢ state.Running → IsRoomed old.tray t
+pub stopped_event : (old : BookView) (t : TrayView) (made : List (List ℕ)) → IsBook old → IsIdle old → t.net.modules.miniport ≢ state.Running → IsRoomed old.tray t
     → IsDone old (record { tray = t; held = old.held }) (event.Indicate made) (reply.Refused refusal.NotRunning)
 stopped_event old t made k i other roomed =
-    refused_event old t made (flat_reply.Refused refusal.NotRunning) k i roomed.begins roomed.turns (outcome_by old.tray.net made false (is_full old.tray.net Miniport) (still old.tray.net.modules.miniport other) refl)
+    refused_event old t made (flat_reply.Refused refusal.NotRunning) k i roomed.begins roomed.turns (outcome_by old.tray.net made false (is_full old.tray.net Miniport) (ap (λ (n : Net). is_running n.modules.miniport) (sym roomed.begins.net) ∙ still t.net.modules.miniport other) refl)

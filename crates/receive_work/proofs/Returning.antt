@@ -40,7 +40,7 @@ use Rattle.receive_work.specs.Returns.{Returns}
 use Rattle.receive_work.proofs.Finding.{lacks_list, keeps_list}
 
 -- the answer, by whether the protocol kept the list
-pub answer_of : Bool → Reply
+abbrev pub answer_of : Bool → Reply
 answer_of true = reply.Ok
 answer_of false = reply.Refused refusal.NotHeld
 

@@ -1,5 +1,4 @@
-use Rattle.std.proofs.Common.{sym, ap, ◌∙◌}
-use Rattle.stack_rules.specs.Net.{Net}
+use Rattle.std.proofs.Common.{◌∙◌}
 use Rattle.book_parts.specs.Parts.{view_of}
 use Rattle.binding_work.proofs.Sending.{is_roomed}
 use Rattle.receive_work.proofs.Indicating.{may_start, indicated_event, indicated_within, stopped_event}
@@ -15,7 +14,7 @@ pub returns-in-Running-clause-did : goal.returns-in-Running-clause-did
 returns-in-Running-clause-did g c =
     let old = view_of g.M.MiniportCalls.state g.P.ProtocolCalls.state g.F.FilterCalls.state c.args.book.now in
     let r = is_roomed old.tray c.make_room.new.self c.in_ok-make_room.ensures.same c.in_ok-make_room.ensures.room_kept c.in_ok-make_room.ensures.slack_kept c.in_ok-make_room.ensures.room.turns c.in_ok-make_room.ensures.room.rows c.in_ok-make_room.ensures.slack c.in_ok-make_room.ensures.low in
-    (indicated_event old c.make_room.new.self _ c.args.frames.now c.indicate_running.result c.requires.book c.requires.idle (sym (c.in-Running.ensures ∙ ap (λ (n : Net). n.modules.miniport) r.begins.net)) c.requires.may r c.indicate_running.ensures).did
+    (indicated_event old c.make_room.new.self _ c.args.frames.now c.indicate_running.result c.requires.book c.requires.idle c.in-Running.ensures c.requires.may r c.indicate_running.ensures).did
 
 pub returns-in-Running-clause-within : goal.returns-in-Running-clause-within
 returns-in-Running-clause-within g c = indicated_within c.indicate_running.ensures
@@ -24,10 +23,10 @@ pub returns-in-Running-clause-turn : goal.returns-in-Running-clause-turn
 returns-in-Running-clause-turn g c =
     let old = view_of g.M.MiniportCalls.state g.P.ProtocolCalls.state g.F.FilterCalls.state c.args.book.now in
     let r = is_roomed old.tray c.make_room.new.self c.in_ok-make_room.ensures.same c.in_ok-make_room.ensures.room_kept c.in_ok-make_room.ensures.slack_kept c.in_ok-make_room.ensures.room.turns c.in_ok-make_room.ensures.room.rows c.in_ok-make_room.ensures.slack c.in_ok-make_room.ensures.low in
-    (indicated_event old c.make_room.new.self _ c.args.frames.now c.indicate_running.result c.requires.book c.requires.idle (sym (c.in-Running.ensures ∙ ap (λ (n : Net). n.modules.miniport) r.begins.net)) c.requires.may r c.indicate_running.ensures).turn
+    (indicated_event old c.make_room.new.self _ c.args.frames.now c.indicate_running.result c.requires.book c.requires.idle c.in-Running.ensures c.requires.may r c.indicate_running.ensures).turn
 
 pub returns-in_default-clause-did : goal.returns-in_default-clause-did
 returns-in_default-clause-did g c =
     let old = view_of g.M.MiniportCalls.state g.P.ProtocolCalls.state g.F.FilterCalls.state c.args.book.now in
     let r = is_roomed old.tray c.make_room.new.self c.in_ok-make_room.ensures.same c.in_ok-make_room.ensures.room_kept c.in_ok-make_room.ensures.slack_kept c.in_ok-make_room.ensures.room.turns c.in_ok-make_room.ensures.room.rows c.in_ok-make_room.ensures.slack c.in_ok-make_room.ensures.low in
-    (stopped_event old c.make_room.new.self c.args.frames.now c.requires.book c.requires.idle (λ e. c.in_default.not-Running (c.state_of.ensures ∙ ap (λ (n : Net). n.modules.miniport) r.begins.net ∙ e)) r).did
+    (stopped_event old c.make_room.new.self c.args.frames.now c.requires.book c.requires.idle (λ e. c.in_default.not-Running (c.state_of.ensures ∙ e)) r).did
