@@ -1,5 +1,5 @@
 -- Whether a module keeps the list of a number, in hand and in the state.
-use Rattle.std.proofs.Common.{◌≡◌, ℕ, ◌==◌, Bool, true, false, cond, List, [], ◌∷◌, ◌++◌, Option, Some, None, map, filter, find, refl, sym, ap, ◌∙◌, subst}
+use Rattle.std.proofs.Common.{◌≡◌, ℕ, ◌==◌, Bool, true, false, cond, List, [], ◌∷◌, ◌++◌, Option, Some, None, map, filter, find, refl, sym, ap, ◌∙◌}
 use Rattle.ndis_base.specs.declared.ListStatus.TheVariants.{Success}
 use Rattle.ndis_base.specs.declared.ModuleId.{ModuleId}
 use Rattle.ndis_base.specs.declared.ModuleId.TheVariants.{Binding}
@@ -8,7 +8,7 @@ use Rattle.journal_types.specs.declared.Reply.TheVariants as reply
 use Rattle.buffer_pools.specs.Views.{ListView}
 use Rattle.stack_rules.specs.declared.LiveList.{LiveList}
 use Rattle.stack_rules.specs.Net.{Net, lists, list_of}
-use Rattle.stack_rules.specs.Outcome.{Outcome, refused}
+use Rattle.stack_rules.specs.Outcome.{refused}
 use Rattle.stack_rules.specs.Places.{is_kept_by, kept_lists}
 use Rattle.stack_rules.specs.Receives.{give_back_of}
 use Rattle.stack_rules.specs.Targets.{homeward}

@@ -1,5 +1,5 @@
 -- What the miniport indicates is what the rules say.
-use Rattle.std.proofs.Common.{◌≡◌, ◌≢◌, ℕ, ◌≤◌, Bool, true, false, cond, List, [], ◌∷◌, None, refl, sym, ap, ◌∙◌, subst, arith, ne_eqb, eq-eqb}
+use Rattle.std.proofs.Common.{◌≡◌, ◌≢◌, ℕ, ◌≤◌, Bool, true, false, cond, List, [], None, refl, sym, ap, ◌∙◌, subst, arith, ne_eqb, eq-eqb}
 use Rattle.ndis_base.specs.declared.Direction.TheVariants as direction
 use Rattle.ndis_base.specs.declared.ListNo.{ListNo}
 use Rattle.ndis_base.specs.declared.ModuleId.TheVariants.{Miniport}
@@ -105,7 +105,7 @@ lacked_event old t made k i running r full =
     refused_event old (record t { caller = Miniport }) made (flat_reply.Refused refusal.NoList) k i (begins_called Miniport t.pool r.begins) r.turns
     (outcome_by old.tray.net made true true (ap is_running running) (full_at old Miniport k tt ∙ eq-eqb (live_count old.held.miniport_pool) old.held.miniport_pool.size full))
 
-book_is : {new : BookView} {t : TrayView} {h : HeldView} → new.tray ≡ t → new.held ≡ h → record { tray = t; held = h } ≡ new
+pub book_is : {new : BookView} {t : TrayView} {h : HeldView} → new.tray ≡ t → new.held ≡ h → record { tray = t; held = h } ≡ new
 book_is {new} {t} {h} e f = ap (λ x. record { tray = x; held = h }) (sym e) ∙ ap (λ x. record { tray = new.tray; held = x }) (sym f)
 
 runs_before : {old t : TrayView} → IsRoomed old t → state.Running ≡ t.net.modules.miniport → old.net.modules.miniport ≡ state.Running
@@ -137,7 +137,7 @@ still state.Restarting ne = refl
 still state.Running ne = absurd (ne refl)
 still state.Pausing ne = refl
 
-pub stopped_event : (old : BookView) (t : TrayView) (made : List (List ℕ)) → IsBook old → IsIdle old → t.net.modules.miniport ≢ state.Running → IsRoomed old.tray t
+pub stopped_event : (old : BookView) (t : TrayView) (made : List (List ℕ)) (s : ModuleState) → IsBook old → IsIdle old → s ≡ t.net.modules.miniport → s ≢ state.Running → IsRoomed old.tray t
     → IsDone old (record { tray = t; held = old.held }) (event.Indicate made) (reply.Refused refusal.NotRunning)
-stopped_event old t made k i other roomed =
-    refused_event old t made (flat_reply.Refused refusal.NotRunning) k i roomed.begins roomed.turns (outcome_by old.tray.net made false (is_full old.tray.net Miniport) (ap (λ (n : Net). is_running n.modules.miniport) (sym roomed.begins.net) ∙ still t.net.modules.miniport other) refl)
+stopped_event old t made s k i same other roomed =
+    refused_event old t made (flat_reply.Refused refusal.NotRunning) k i roomed.begins roomed.turns (outcome_by old.tray.net made false (is_full old.tray.net Miniport) (ap (λ (n : Net). is_running n.modules.miniport) (sym roomed.begins.net) ∙ ap is_running (sym same) ∙ still s other) refl)

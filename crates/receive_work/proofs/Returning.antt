@@ -11,7 +11,7 @@ use Rattle.journal_types.specs.declared.Refusal.TheVariants as refusal
 use Rattle.journal_types.specs.declared.Reply.{Reply}
 use Rattle.journal_types.specs.declared.Reply.TheVariants as reply
 use Rattle.journal_types.specs.declared.Row.{Row}
-use Rattle.buffer_pools.specs.Views.{ListView, PoolView}
+use Rattle.buffer_pools.specs.Views.{PoolView}
 use Rattle.stack_rules.specs.Conditions.{may_ask, is_between}
 use Rattle.stack_rules.specs.Net.{Net}
 use Rattle.stack_rules.specs.Outcome.{Outcome}
@@ -37,6 +37,7 @@ use Rattle.miniport_work.proofs.Sends.{no_choice}
 use Rattle.binding_work.specs.Sends.{called_with}
 use Rattle.binding_work.proofs.Sending.{IsBound, IsDone, is_bound}
 use Rattle.receive_work.specs.Returns.{Returns}
+use Rattle.receive_work.proofs.Indicating.{book_is}
 use Rattle.receive_work.proofs.Finding.{lacks_list, keeps_list}
 
 -- the answer, by whether the protocol kept the list
@@ -118,9 +119,6 @@ below_of n m false c e f = cc
 pub there_of : (old : BookView) (binding : ℕ) (list : ListNo) → IsBook old → IsIdle old → may_ask old.tray.head (event.GiveBack binding list) ≡ true → IsBound old binding
 there_of old binding list k i may =
     is_bound old binding k i (below_of binding (length old.tray.head.bindings) (nat_lt binding (length old.tray.head.bindings)) (is_between 1 (2 ^ 60) list.0) refl may)
-
-book_is : {new : BookView} {t : TrayView} {h : HeldView} → new.tray ≡ t → new.held ≡ h → record { tray = t; held = h } ≡ new
-book_is {new} {t} {h} e f = ap (λ x. record { tray = x; held = h }) (sym e) ∙ ap (λ x. record { tray = new.tray; held = x }) (sym f)
 
 -- the view with other protocols and pools
 pub called_at : (held : HeldView) (i : ℕ) (s' : ProtocolState) (pool : PoolView) (all : List ProtocolState) (each : List PoolView) → all ≡ slice_set held.protocols i s' → each ≡ slice_set held.protocol_pools i pool

@@ -1,4 +1,3 @@
-use Rattle.std.proofs.Common.{◌∙◌}
 use Rattle.book_parts.specs.Parts.{view_of}
 use Rattle.binding_work.proofs.Sending.{is_roomed}
 use Rattle.receive_work.proofs.Indicating.{may_start, indicated_event, indicated_within, stopped_event}
@@ -29,4 +28,4 @@ pub returns-in_default-clause-did : goal.returns-in_default-clause-did
 returns-in_default-clause-did g c =
     let old = view_of g.M.MiniportCalls.state g.P.ProtocolCalls.state g.F.FilterCalls.state c.args.book.now in
     let r = is_roomed old.tray c.make_room.new.self c.in_ok-make_room.ensures.same c.in_ok-make_room.ensures.room_kept c.in_ok-make_room.ensures.slack_kept c.in_ok-make_room.ensures.room.turns c.in_ok-make_room.ensures.room.rows c.in_ok-make_room.ensures.slack c.in_ok-make_room.ensures.low in
-    (stopped_event old c.make_room.new.self c.args.frames.now c.requires.book c.requires.idle (λ e. c.in_default.not-Running (c.state_of.ensures ∙ e)) r).did
+    (stopped_event old c.make_room.new.self c.args.frames.now c.state_of.result c.requires.book c.requires.idle c.state_of.ensures c.in_default.not-Running r).did

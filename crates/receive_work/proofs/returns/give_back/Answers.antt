@@ -1,11 +1,9 @@
-use Rattle.std.proofs.Common.{◌<◌, Bool, true, false, map, subst}
+use Rattle.std.proofs.Common.{◌<◌, true, false, map, subst}
 use Rattle.std.proofs.lemmas.List.{length-map}
-use Rattle.journal_types.specs.declared.Event.TheVariants as event
 use Rattle.book_lemmas.specs.Views.{BookView}
 use Rattle.book_parts.specs.Parts.{view_of}
 use Rattle.book_parts.proofs.Events.{begins_roomed}
-use Rattle.binding_work.proofs.Sending.{IsDone}
-use Rattle.receive_work.proofs.Returning.{answer_of, there_of, called_at, returned_event}
+use Rattle.receive_work.proofs.Returning.{there_of, called_at, returned_event}
 use Rattle.receive_work.proofs.returns.give_back.Goals as goal
 
 pub return_at-kept-requires-clause-protocols : goal.return_at-kept-requires-clause-protocols
