@@ -1,0 +1,3 @@
+pub mod Indicating
+pub mod Finding
+pub mod Returning

@@ -1,0 +1,2 @@
+pub mod Indications
+pub mod Returns
