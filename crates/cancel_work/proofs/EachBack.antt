@@ -76,16 +76,20 @@ waits_row {l} net p n ready k = ap (λ q. waits_at (after net q) k) p.is ∙ wai
 pub waits_each : (t : TrayView) (status : ListStatus) (p : ListView → Bool) (ls : List ListView) → IsNumbered t.net → ((l : ListView) → p l ≡ true → waits_at t.net l.label.number.0 ≡ false)
     → (k : ℕ) → waits_at (tray.each_turned_back t (filter p ls) status).net k ≡ waits_at t.net k
 waits_each t status p [] n ready k = refl
-waits_each t status p (l ∷ ls) n ready k = by (p l) refl
+waits_each t status p (l ∷ ls) n ready k = by (p l) refl (λ q m r. waits_each q status p ls m r k)
   where
-    by : (c : Bool) → p l ≡ c → waits_at (tray.each_turned_back t (cond c (l ∷ filter p ls) (filter p ls)) status).net k ≡ waits_at t.net k
-    by true e =
-        let had : IsNumbered (after t.net (row.TurnBack l.label.number t.caller status)) = numbered_after t.net (row.TurnBack l.label.number t.caller status) tt n in
-        let here : (j : ℕ) → waits_at (tray.turned_back t l status).net j ≡ waits_at t.net j =
-        λ j. waits_row (after t.net (row.TurnBack l.label.number t.caller status)) (homeward_is (tray.written t (row.TurnBack l.label.number t.caller status)) l status) had
-        (waits_back t.net l.label.number t.caller status l.label.number.0 ∙ ready l e) j
-        ∙ waits_back t.net l.label.number t.caller status j in
-        waits_each (tray.turned_back t l status) status p ls (numbered_pass (after t.net (row.TurnBack l.label.number t.caller status)) (homeward_is (tray.written t (row.TurnBack l.label.number t.caller status)) l status) had)
-        (λ x f. here x.label.number.0 ∙ ready x f) k
-        ∙ here k
-    by false e = waits_each t status p ls n ready k
+    passes : IsPass l (tray.homeward_row (tray.written t (row.TurnBack l.label.number t.caller status)) l status)
+    passes = homeward_is (tray.written t (row.TurnBack l.label.number t.caller status)) l status
+
+    numbered : IsNumbered (after t.net (row.TurnBack l.label.number t.caller status))
+    numbered = numbered_after t.net (row.TurnBack l.label.number t.caller status) tt n
+
+    here : p l ≡ true → (j : ℕ) → waits_at (tray.turned_back t l status).net j ≡ waits_at t.net j
+    here e j =
+        waits_row (after t.net (row.TurnBack l.label.number t.caller status)) passes numbered (waits_back t.net l.label.number t.caller status l.label.number.0 ∙ ready l e) j
+        ∙ waits_back t.net l.label.number t.caller status j
+
+    by : (c : Bool) → p l ≡ c → ((q : TrayView) → IsNumbered q.net → ((x : ListView) → p x ≡ true → waits_at q.net x.label.number.0 ≡ false) → waits_at (tray.each_turned_back q (filter p ls) status).net k ≡ waits_at q.net k)
+        → waits_at (tray.each_turned_back t (cond c (l ∷ filter p ls) (filter p ls)) status).net k ≡ waits_at t.net k
+    by true e more = more (tray.turned_back t l status) (numbered_pass (after t.net (row.TurnBack l.label.number t.caller status)) passes numbered) (λ x f. here e x.label.number.0 ∙ ready x f) ∙ here e k
+    by false e more = more t n ready

@@ -1,3 +1,4 @@
+pub mod Fewer
 pub mod Waits
 pub mod EachBack
 pub mod Ready

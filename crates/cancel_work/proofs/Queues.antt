@@ -1,5 +1,5 @@
 -- One module that queues sends after the other.
-use Rattle.std.proofs.Common.{◌≡◌, ℕ, zero, suc, ◌+◌, ◌*◌, ◌≤◌, ◌<◌, ◌==◌, ◌||◌, Bool, true, false, cond, List, [], ◌∷◌, ◌++◌, flat_map, length, map, filter, drop, get_or, sum_by, refl, sym, ap, ◌∙◌, subst, arith, append_assoc, append-nil, length-append}
+use Rattle.std.proofs.Common.{◌≡◌, ℕ, zero, suc, ◌+◌, ◌*◌, ◌^◌, ◌≤◌, ◌<◌, ◌==◌, ◌||◌, Bool, true, false, cond, List, [], ◌∷◌, ◌++◌, flat_map, length, map, filter, drop, get_or, sum_by, refl, sym, ap, ◌∙◌, subst, arith, append_assoc, append-nil, length-append}
 use Rattle.std.proofs.lemmas.Bool.{cond-true, cond-false}
 use Rattle.std.proofs.lemmas.List.{drop_all}
 use Rattle.std.proofs.lemmas.List.Sums.{sum_by-cons}
@@ -155,3 +155,36 @@ room_left old mid id n m ms r o c =
     let all = sum_by-cons (λ j. length (kept_of old.held j)) m ms in
     let kept = kept_still old.held mid.held m ms c.others o in
     record { rows = omega (arith, r.rows, c.rows, c.most, kept, all); slack = omega (arith, r.slack, c.slack, c.most, kept, all); low = omega (arith, r.low, kept, all) }
+
+-- A hold filter at a place of the configuration, and then those behind it.
+module _ (old mid : BookView) (id n i f : ℕ) (d : IsDistinct old.tray.net.modules.order) (within : i < length old.tray.net.modules.order) (is : f ≡ get_or old.tray.net.modules.order i 0) (hold : is_hold_filter old.tray.net.modules f ≡ true) where
+  pub room_here : HasRoomToCancel old (queues_from old.tray.net.modules i) → HasRoomToCancel old (Filter f ∷ [])
+  room_here r = room_one old (Filter f) (queues_from old.tray.net.modules (i + 1)) (subst (HasRoomToCancel old) (queues_here old.tray.net.modules i f within is hold) r)
+
+  pub room_behind : HasRoomToCancel old (queues_from old.tray.net.modules i) → CancelledAt old mid id (Filter f) n → HasRoomToCancel mid (queues_from mid.tray.net.modules (i + 1))
+  room_behind r c =
+      subst (λ ms. HasRoomToCancel mid (queues_from ms (i + 1))) (sym c.modules)
+      (room_left old mid id n (Filter f) (queues_from old.tray.net.modules (i + 1)) (subst (HasRoomToCancel old) (queues_here old.tray.net.modules i f within is hold) r)
+      (queues_differ old.tray.net.modules i f d within is) c)
+
+  pub cancelled_from : (new : BookView) (more : ℕ) → IsBook old → CancelledAt old mid id (Filter f) n → Cancelled mid new id (queues_from mid.tray.net.modules (i + 1)) more → Cancelled old new id (queues_from old.tray.net.modules i) (n + more)
+  cancelled_from new more k c e =
+      subst (λ ms. Cancelled old new id ms (n + more)) (sym (queues_here old.tray.net.modules i f within is hold))
+      (cancelled_more old mid new id n more (Filter f) (queues_from old.tray.net.modules (i + 1)) k (queues_differ old.tray.net.modules i f d within is) c
+      (subst (λ ms. Cancelled mid new id (queues_from ms (i + 1)) more) c.modules e))
+
+  -- the numbers are far from the largest one
+  pub low_both : (new : BookView) (more : ℕ) → HasRoomToCancel old (queues_from old.tray.net.modules i) → CancelledAt old mid id (Filter f) n → Cancelled mid new id (queues_from mid.tray.net.modules (i + 1)) more → n + more < 2 ^ 61
+  low_both new more r c e =
+      let one = sum_by-cons (λ j. length (kept_of old.held j)) (Filter f) [] in
+      let here = room_here r in
+      let behind = room_behind r c in
+      omega (arith, c.most, e.most, here.low, behind.low, one)
+
+-- what they keep
+pub kept_here : (held : HeldView) (ms : Modules) (i f a b : ℕ) → i < length ms.order → f ≡ get_or ms.order i 0 → is_hold_filter ms f ≡ true → a ≡ length (kept_of held (Filter f)) → b ≡ kept_by held (queues_from ms (i + 1))
+    → a + b ≡ kept_by held (queues_from ms i)
+kept_here held ms i f a b within is hold here behind =
+    let all = sum_by-cons (λ j. length (kept_of held j)) (Filter f) (queues_from ms (i + 1)) in
+    let from : kept_by held (queues_from ms i) ≡ kept_by held (Filter f ∷ queues_from ms (i + 1)) = ap (kept_by held) (queues_here ms i f within is hold) in
+    omega (arith, all, from, here, behind)
