@@ -1,5 +1,5 @@
 -- The event of a cancel ends.
-use Rattle.std.proofs.Common.{◌≡◌, ℕ, ◌≤◌, false, List, [], length, flat_map, refl, sym, ap, ◌∙◌, subst, arith}
+use Rattle.std.proofs.Common.{◌≡◌, ℕ, ◌≤◌, false, length, flat_map, refl, sym, ap, ◌∙◌, subst, arith}
 use Rattle.ndis_base.specs.declared.Phase.{Phase}
 use Rattle.ndis_base.specs.declared.Phase.TheVariants as phase
 use Rattle.journal_types.specs.declared.Event.TheVariants as event
@@ -14,7 +14,7 @@ use Rattle.book_parts.specs.Events.{IsBook, IsIdle, DidEvent, CanEnd}
 use Rattle.book_parts.proofs.Ended.{idle_state}
 use Rattle.book_parts.proofs.Events.{Ends, did_event}
 use Rattle.drain_work.specs.Drains.{IsSame, IsRoomed, IsReadyFor}
-use Rattle.drain_work.proofs.Sames.{same_roomed, same_unmoved, ends_then}
+use Rattle.drain_work.proofs.Sames.{same_roomed, ends_then}
 use Rattle.cancel_work.specs.Cancels.{queues_from, kept_by, IsCounted, HasRoomToCancel, Cancelled}
 
 -- no filter is twice in the order

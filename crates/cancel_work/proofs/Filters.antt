@@ -1,9 +1,9 @@
 -- A hold filter was called for a cancel.
-use Rattle.std.proofs.Common.{◌≡◌, ℕ, ◌*◌, ◌<◌, ◌≤◌, true, List, [], ◌∷◌, Option, Some, None, IsSome, length, slice_set, refl, sym, ap, ◌∙◌, subst, arith}
+use Rattle.std.proofs.Common.{◌≡◌, ℕ, ◌<◌, true, [], ◌∷◌, Option, Some, None, IsSome, length, refl, sym, ap, ◌∙◌, subst, arith}
 use Rattle.std.proofs.lemmas.List.Sums.{sum_by-cons}
 use Rattle.ndis_base.specs.declared.ModuleId.TheVariants.{Filter}
 use Rattle.journal_types.specs.declared.Setup.{Setup}
-use Rattle.buffer_pools.specs.Views.{ListView, PoolView}
+use Rattle.buffer_pools.specs.Views.{PoolView}
 use Rattle.stack_rules.specs.declared.Attached.{Attached}
 use Rattle.stack_rules.specs.Cancels.{hold_in, is_hold_filter, cancel_rows_at}
 use Rattle.stack_rules.specs.Net.{attached}
@@ -22,7 +22,7 @@ use Rattle.book_parts.specs.Events.{IsBook}
 use Rattle.book_parts.proofs.Events.{Ends, begins_called, ends_call}
 use Rattle.drain_work.specs.Drains.{called_with}
 use Rattle.drain_work.proofs.Sames.{book_is, same_self}
-use Rattle.cancel_work.specs.Cancels.{HasRoomToCancel, FilterTurns, CancelledAt, kept_by}
+use Rattle.cancel_work.specs.Cancels.{HasRoomToCancel, FilterTurns, CancelledAt}
 use Rattle.cancel_work.proofs.Turned.{Turned, turned, cancelled_at_end}
 
 -- a hold filter is attached, and its driver has a place

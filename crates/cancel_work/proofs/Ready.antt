@@ -1,14 +1,12 @@
 -- The lists that a module turns back for a cancel, in hand and in the words of the rules.
-use Rattle.std.proofs.Common.{◌≡◌, ℕ, ◌&&◌, not, Bool, true, false, cond, List, [], ◌∷◌, ◌++◌, Some, flat_map, length, map, filter, refl, sym, ap, ◌∙◌, subst}
+use Rattle.std.proofs.Common.{◌≡◌, ℕ, ◌&&◌, not, Bool, true, false, cond, List, [], ◌∷◌, Some, flat_map, length, map, filter, refl, sym, ap, ◌∙◌}
 use Rattle.std.proofs.lemmas.List.{length-map}
 use Rattle.std.proofs.lemmas.List.Folds.{flat_map-map}
 use Rattle.ndis_base.specs.declared.ListStatus.TheVariants.{Aborted}
 use Rattle.ndis_base.specs.declared.ModuleId.{ModuleId}
-use Rattle.journal_types.specs.declared.Row.{Row}
 use Rattle.buffer_pools.specs.Views.{ListView}
-use Rattle.stack_rules.specs.declared.LiveList.{LiveList}
 use Rattle.stack_rules.specs.Cancels.{is_named, cancelled_at, cancel_rows_at}
-use Rattle.stack_rules.specs.Net.{Net, Modules}
+use Rattle.stack_rules.specs.Net.{Net}
 use Rattle.stack_rules.specs.Places.{ready_lists}
 use Rattle.stack_rules.specs.Tests.{is_down, same_number}
 use Rattle.agenda_items.specs.Waits.{waits_at}

@@ -1,11 +1,11 @@
 -- A module was called for a cancel: its rows are those of the rules, and nothing else changed.
-use Rattle.std.proofs.Common.{◌≡◌, ℕ, ◌+◌, ◌≤◌, not, Bool, false, List, [], ◌∷◌, ◌++◌, flat_map, length, filter, refl, sym, ap, ◌∙◌, subst, arith}
+use Rattle.std.proofs.Common.{◌≡◌, ℕ, ◌+◌, ◌≤◌, not, Bool, List, [], ◌++◌, flat_map, length, filter, refl, sym, ap, ◌∙◌, subst, arith}
 use Rattle.std.proofs.lemmas.List.Filters.{length-filter_both}
 use Rattle.ndis_base.specs.declared.ListStatus.TheVariants.{Aborted}
 use Rattle.ndis_base.specs.declared.ModuleId.{ModuleId}
 use Rattle.journal_types.specs.declared.Row.{Row}
 use Rattle.journal_types.specs.declared.StackHead.{StackHead}
-use Rattle.buffer_pools.specs.Views.{ListView, PoolView}
+use Rattle.buffer_pools.specs.Views.{ListView}
 use Rattle.stack_rules.specs.Cancels.{cancelled_at, cancel_rows_at}
 use Rattle.stack_rules.specs.Net.{Net}
 use Rattle.agenda_items.specs.Waits.{waits_at}

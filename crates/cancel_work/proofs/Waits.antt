@@ -1,6 +1,5 @@
 -- A list that is ready is turned back: which other lists wait stays the same.
-use Rattle.std.proofs.Common.{◌≡◌, ℕ, ◌==◌, ◌||◌, not, Bool, true, false, cond, List, [], ◌∷◌, ◌++◌, Option, Some, None, option_map, refl, sym, ap, ◌∙◌, subst, arith, eqb-true}
-use Rattle.std.specs.List.{list_any}
+use Rattle.std.proofs.Common.{◌≡◌, ℕ, ◌==◌, ◌||◌, not, Bool, true, false, cond, List, [], ◌∷◌, Option, Some, None, option_map, refl, sym, ap, ◌∙◌, subst, arith, eqb-true}
 use Rattle.std.proofs.lemmas.Bool.Decides.{nat_tests}
 use Rattle.std.proofs.lemmas.List.Folds.{list_any-append}
 use Rattle.ndis_base.specs.declared.ModuleId.{ModuleId}
@@ -16,7 +15,6 @@ use Rattle.rule_basics.specs.Live.{is_live, IsApart, others, touched, retouched,
 use Rattle.rule_basics.specs.Numbers.{IsNumbered}
 use Rattle.rule_basics.proofs.Apart.{others-absent}
 use Rattle.rule_basics.proofs.Lists.{lists-changed, lists-passed}
-use Rattle.rule_basics.proofs.Numbered.{numbered_after}
 use Rattle.place_laws.proofs.Looks.{look, passing, look_pass, look_back}
 use Rattle.work_laws.proofs.Clones.{any_clone, none_out}
 use Rattle.agenda_items.specs.Waits.{crossed_at, waits_at}

@@ -1,5 +1,5 @@
 //! The event of a cancel.
-ghost use Rattle.std.specs.Prelude.{true, ◌≡◌, ◌+◌, ◌<◌, ◌^◌, ◌∷◌, [], ℕ, Some, OnOk, OnErr, IfOk, length, map, slice_set};
+ghost use Rattle.std.specs.Prelude.{true, ◌≡◌, ◌+◌, ◌<◌, ◌∷◌, [], Some, OnOk, OnErr, IfOk, length, map, slice_set};
 ghost use Rattle.ndis_base.specs.declared.ModuleId.TheVariants.{Filter, Miniport};
 ghost use Rattle.journal_types.specs.declared.Event.TheVariants as event;
 ghost use Rattle.flat_journal.specs.Shown.{reply_of};

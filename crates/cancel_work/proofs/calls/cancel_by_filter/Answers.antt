@@ -1,4 +1,4 @@
-use Rattle.std.proofs.Common.{◌≤◌, length, subst, ap, ◌∙◌, arith}
+use Rattle.std.proofs.Common.{subst, ap, ◌∙◌, arith}
 use Rattle.buffer_pools.specs.Views.{PoolView}
 use Rattle.driver_tray.specs.Tray.{TrayView}
 use Rattle.driver_calls.specs.Filters.{Cancels}

@@ -28,7 +28,7 @@ overflow_add-result g t c =
     let f = get_or c.order.result.now c.args.index 0 in
     let hold : is_hold_filter old.tray.net.modules f ≡ true = ap (λ (ms : Modules). is_hold_filter ms f) (sym c.modules.ensures) ∙ sym c.is_hold_filter.ensures ∙ c.if-not-is_hold_filter.false in
     let low = low_both old mid c.args.id c.cancel_filter-here.result c.args.index f c.requires.distinct (subst (λ n. c.args.index < n) c.requires.all c.if-index-count.false) (ap (λ fs. get_or fs c.args.index 0) c.order.ensures) hold
-        new c.cancel_from-below.result c.requires.room c.cancel_filter-here.ensures c.cancel_from-below.ensures in
+    new c.cancel_from-below.result c.requires.room c.cancel_filter-here.ensures c.cancel_from-below.ensures in
     omega (arith, low)
 
 pub returns : goal.returns

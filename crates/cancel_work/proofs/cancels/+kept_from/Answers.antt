@@ -1,4 +1,4 @@
-use Rattle.std.proofs.Common.{◌≡◌, ◌<◌, true, length, filter, map, get_or, sym, ap, ◌∙◌, subst}
+use Rattle.std.proofs.Common.{◌≡◌, ◌<◌, true, length, map, get_or, sym, ap, ◌∙◌, subst}
 use Rattle.std.specs.Prelude.{IfOk}
 use Rattle.ndis_base.specs.declared.ModuleId.TheVariants.{Filter}
 use Rattle.stack_rules.specs.Cancels.{is_hold_filter}

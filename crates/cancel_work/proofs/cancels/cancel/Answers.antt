@@ -1,5 +1,4 @@
-use Rattle.std.proofs.Common.{refl, sym, ap, subst}
-use Rattle.stack_rules.specs.Net.{Net}
+use Rattle.std.proofs.Common.{refl, sym, subst}
 use Rattle.state_laws.specs.Shape.{IsDistinct}
 use Rattle.driver_tray.specs.Tray.{TrayView}
 use Rattle.book_lemmas.specs.Views.{BookView}
