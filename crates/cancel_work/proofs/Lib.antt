@@ -1,0 +1,9 @@
+pub mod Fewer
+pub mod Waits
+pub mod EachBack
+pub mod Ready
+pub mod Turned
+pub mod Filters
+pub mod Miniports
+pub mod Queues
+pub mod Ended
