@@ -167,6 +167,9 @@ pub record EndsStack (old new : BookView) : Type 0 where
 -- the events that a call of a script asks for
 abbrev pub MayCall : Event → Type 0
 MayCall (event.Send binding cancel frames) = Unit {0}
+MayCall (event.Indicate frames) = Unit {0}
+MayCall (event.GiveBack binding list) = Unit {0}
+MayCall (event.Cancel id) = Unit {0}
 MayCall event.Transmit = Unit {0}
 MayCall event.Pump = Unit {0}
 MayCall event.Drain = Unit {0}

@@ -1,7 +1,7 @@
 //! Which scripts can be run.
-ghost use Rattle.std.specs.Prelude.{◌≡◌, IfOk, nat_le};
+ghost use Rattle.std.specs.Prelude.{◌≡◌, ◌^◌, IfOk, nat_le};
 ghost use Rattle.std.specs.List.{list_all};
-ghost use Rattle.stack_rules.specs.Conditions.{is_cancel, is_frame, are_frames, is_fine_test, is_program, is_setup};
+ghost use Rattle.stack_rules.specs.Conditions.{is_between, is_cancel, is_identifier, is_frame, are_frames, is_fine_test, is_program, is_setup};
 ghost use Rattle.journal_types.specs.declared.StackHead.{StackHead};
 ghost use Rattle.script_events.specs.Events.{event_of};
 ghost use Rattle.lane_orders.specs.Orders.{is_below};
@@ -9,14 +9,14 @@ ghost use Rattle.book_scripts.specs.Scripts.{is_asked_event, is_asked_call};
 ghost use Rattle.script_runs.specs.Built as form;
 
 use journal_types::{BindingSetups, Setup, StackHead, UpperLinks};
-use ndis_base::{FilterKind, Frame, MiniportKind, OutOfMemory, ProtocolKind};
+use ndis_base::{FilterKind, Frame, ListNo, MiniportKind, OutOfMemory, ProtocolKind};
 use program_types::{Rule, Test};
 use script_types::{Call, CallKind, FilterSetup, Script, StackSetup};
 use std::alloc::Global;
 
 /// Whether a script can be run: one stack of an adapter with a ring, of 1 to 8 protocols that
-/// log, retain or echo, and of at most 16 filters that pass, hold or count; and calls that send, transmit,
-/// pump, drain, pause, restart, or change the filters by such.
+/// log, retain or echo, and of at most 16 filters that pass, hold or count; and calls of the script's lanes
+/// that send, indicate, give back, cancel, transmit, pump, drain, pause, restart, or change the filters by such.
 pub fn is_built(script: &Script) -> bool
     ensures { result ≡ form.is_built script.now }
 {
@@ -156,6 +156,11 @@ fn is_asked_kind(stack: &StackSetup, kind: &CallKind) -> bool
                 && is_cancel(*cancel)
                 && are_frames(frames.items())
         }
+        CallKind::Indicate { frames } => are_frames(frames.items()),
+        CallKind::GiveBack { binding, list } => {
+            (*binding as usize) < stack.bindings.items().len() && is_list(*list)
+        }
+        CallKind::Cancel { id } => is_identifier(*id),
         CallKind::Insert { setup, .. } => is_setup(setup),
         CallKind::Remove { filter } => is_number(*filter),
         CallKind::Replace { filter, setup, .. } => is_number(*filter) && is_setup(setup),
@@ -173,6 +178,18 @@ fn is_number(filter: u64) -> bool
     ensures { result ≡ nat_le filter 999999999 }
 {
     filter <= 999_999_999
+}
+
+fn is_list(list: ListNo) -> bool
+    ensures { result ≡ is_between 1 (2 ^ 60) list.0 }
+{
+    (1..=1_152_921_504_606_846_976).contains(&list.0)
+}
+
+fn is_identifier(id: u32) -> bool
+    ensures { result ≡ is_identifier id }
+{
+    id >= 1
 }
 
 fn is_cancel(cancel: Option<u32>) -> bool

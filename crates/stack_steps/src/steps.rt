@@ -15,6 +15,7 @@ ghost use Rattle.stack_steps.specs.Steps.{IsHeld, IsWorked, MovesShelf, Steps};
 
 use binding_work::send;
 use book_parts::BookParts;
+use cancel_work::cancel;
 use drain_work::drain_still;
 use driver_calls::{FilterCalls, MiniportCalls, ProtocolCalls};
 use driver_tray::First;
@@ -27,6 +28,7 @@ use ndis_base::{ListNo, OutOfMemory, Phase};
 use pause_work::pause_next;
 use phase_work::pauses::begin_pause;
 use pump_work::{drain_away, pump};
+use receive_work::{give_back, indicate};
 use rewire_work::{insert, remove, replace};
 use setup_work::{initialize, restart_next};
 use std::alloc::Global;
@@ -87,6 +89,28 @@ fn send_frames<M: MiniportCalls, P: ProtocolCalls, F: FilterCalls>(
     };
     let phase = book.tray.phase();
     send(book, phase, binding, cancel, frames.items(), span)
+}
+
+/// The miniport indicates the frames of an event, which the journal has at `span`.
+fn indicate_frames<M: MiniportCalls, P: ProtocolCalls, F: FilterCalls>(
+    book: &mut BookParts<M, P, F>,
+    event: &Event,
+    span: FrameSpan,
+) -> Result<FlatReply, OutOfMemory>
+    requires book { IsBook (view_of M.state P.state F.state book.old) }
+    requires idle { IsIdle (view_of M.state P.state F.state book.old) }
+    requires indicates { event.now ≡ events.Indicate (frames_at (view_of M.state P.state F.state book.old).tray.payloads.frames span) }
+    requires may { may_ask (view_of M.state P.state F.state book.old).tray.head event.now ≡ true }
+    requires within { SpanWithin (view_of M.state P.state F.state book.old).tray.payloads.frames span }
+    ensures did { IfOk result (λ r. DidEvent (view_of M.state P.state F.state book.old) (view_of M.state P.state F.state book.new) event.now (reply_of (view_of M.state P.state F.state book.new).tray.payloads r)) }
+    ensures within { IfOk result (λ r. ReplyWithin (view_of M.state P.state F.state book.new).tray.payloads r) }
+    ensures turn { OnOk result (CanEnd (view_of M.state P.state F.state book.new)) }
+    ensures memory { OnErr result (IsUnmoved (view_of M.state P.state F.state book.old) (view_of M.state P.state F.state book.new)) }
+{
+    let Event::Indicate { frames } = event else {
+        unreachable!()
+    };
+    indicate(book, frames.items(), span)
 }
 
 /// A drain: a list on its way is worked, and where there is none, the first module from the top that keeps a ready
@@ -150,6 +174,9 @@ fn work<M: MiniportCalls, P: ProtocolCalls, F: FilterCalls>(
             cancel,
             frames,
         } => send_frames(book, event, binding, cancel, frames),
+        FlatEvent::Indicate { frames } => indicate_frames(book, event, frames),
+        FlatEvent::GiveBack { binding, list } => give_back(book, binding, list),
+        FlatEvent::Cancel { id } => cancel(book, id),
         FlatEvent::Transmit => transmit_oldest(book),
         FlatEvent::Pump => pump(book),
         FlatEvent::Drain => drain(book),
