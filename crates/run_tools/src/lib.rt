@@ -57,6 +57,18 @@ pub fn replay(
     run_over(alloc, drivers, &["replay"], &mut source, sink)
 }
 
+/// Replays a script, which is read without a fault, in an order of lanes.
+pub fn replay_in_order(
+    alloc: Global,
+    drivers: Drivers,
+    script: &[u8],
+    order: &str,
+    sink: &mut MemorySink,
+) -> Result<Status, OutOfMemory> {
+    let mut source = MemorySource::make(Vec::from_slice(alloc, script)?, Vec::new(alloc));
+    run_over(alloc, drivers, &["replay", "--order", order], &mut source, sink)
+}
+
 /// Replays a script twice over the same drivers, one report after the other.
 pub fn replay_twice(
     alloc: Global,

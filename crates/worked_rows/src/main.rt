@@ -1,11 +1,13 @@
 //! Runs recorded scripts over a source and a sink in memory, and compares what is written with their
-//! recorded reports. The file `names` lists the runs, one in a line.
+//! recorded reports. The file `names` lists the runs, one in a line, each with the order of its lanes if
+//! it has one.
 #![tactic(auto)]
 
 use ndis_base::OutOfMemory;
 use ndis_cli::Status;
 use outside_io::{MemorySink, MemorySource};
-use run_tools::{ALL_DRIVERS, replay, replay_twice, run_without_parts};
+use run_tools::{ALL_DRIVERS, replay, replay_in_order, replay_twice, run_without_parts};
+use std::alloc::Global;
 use std::{fs, io};
 
 /// The bytes that a report has at most.
@@ -21,14 +23,27 @@ fn same_in_front(a: &[u8], b: &[u8]) -> usize {
     a.len()
 }
 
-fn compare(rt: &HostRuntime, name: &str) -> io::Result<()> {
+/// Replays a script, in the order of lanes that is given.
+fn run(
+    alloc: Global,
+    script: &[u8],
+    order: Option<&str>,
+    sink: &mut MemorySink,
+) -> Result<Status, OutOfMemory> {
+    match order {
+        Some(order) => replay_in_order(alloc, ALL_DRIVERS, script, order, sink),
+        None => replay(alloc, ALL_DRIVERS, script, sink),
+    }
+}
+
+fn compare(rt: &HostRuntime, name: &str, order: Option<&str>) -> io::Result<()> {
     let alloc = rt.alloc();
     let script = fs::read(rt, format!(in alloc; "{name}.script.json")?.as_str())?;
     let report = fs::read(rt, format!(in alloc; "{name}.report")?.as_str())?;
     let Ok(mut sink) = MemorySink::make(alloc, ROOM, Vec::new(alloc)) else {
         return println!(rt; "{name} out of memory");
     };
-    match replay(alloc, ALL_DRIVERS, script.as_slice(), &mut sink) {
+    match run(alloc, script.as_slice(), order, &mut sink) {
         Ok(Status::Done) => {
             if sink.bytes() == report.as_slice() {
                 println!(rt; "{name} ok")
@@ -88,8 +103,11 @@ fn compare_both(rt: &HostRuntime) -> io::Result<()> {
 
 fn main(rt: HostRuntime) -> io::Result<()> {
     let names = fs::read_to_string(&rt, "names")?;
-    for name in names.as_str().lines() {
-        compare(&rt, name)?;
+    for line in names.as_str().lines() {
+        match line.split_once(' ') {
+            Some((name, order)) => compare(&rt, name, Some(order))?,
+            None => compare(&rt, line, None)?,
+        }
     }
     compare_both(&rt)?;
     tell_of_nothing(&rt)
