@@ -77,7 +77,7 @@ example_of_length() {
 }
 
 pump='{"lane":0,"call":"pump","stack":0}'
-usage='usage: ndis replay'
+usage='usage: ndis replay [--order L,L]'
 whole='bad script at whole:'
 
 edge 'no words' 1 "$usage" '$ndis'
@@ -142,7 +142,13 @@ edge 'a call with a missing member' 2 'bad script at call 0: Shape' 'example_wit
 edge 'an unknown call' 2 'bad script at call 0: Range' 'example_with '"'\"call\":\"send\"'"' '"'\"call\":\"sent\"'"' | $ndis replay'
 edge 'a frame that is not hexadecimal' 2 'bad script at call 0: BadHex' 'example_with ffffffffffff gggggggggggg | $ndis replay'
 edge 'a frame that is too short' 2 'bad script at call 0: FrameLength' 'example_with ffffffffffff "" | $ndis replay'
-edge 'two lanes' 2 "$whole NotBuilt" 'example_with '"'\"lanes\":1'"' '"'\"lanes\":2'"' | $ndis replay'
+edge 'an order without its lanes' 1 "$usage" '$ndis replay --order <"$example"'
+edge 'an order of no lanes' 1 "$usage" '$ndis replay --order= <"$example"'
+edge 'an order of a lane past the last' 1 "$usage" '$ndis replay --order 0,8 <"$example"'
+edge 'an order that ends with a comma' 1 "$usage" '$ndis replay --order 0, <"$example"'
+edge 'an order of 16,385 lanes' 1 "$usage" '$ndis replay --order 0$(yes ,0 | head -n 16384 | tr -d "\n") <"$example"'
+edge 'an order of 16,384 lanes' 0 '' '$ndis replay --order 0$(yes ,0 | head -n 16383 | tr -d "\n") <"$example"'
+edge 'an order in one word' 0 '' '$ndis replay --order=0,7 <"$example"'
 edge '16,385 calls' 2 "$whole TooMany" 'script_of_calls 16385 "$pump" | $ndis replay'
 edge '200,000 empty calls' 2 "$whole TooMany" 'script_of_calls 200000 "{}" | $ndis replay'
 
