@@ -18,6 +18,7 @@ use Rattle.drain_work.specs.Drains.{IsSame, IsRoomed, IsReadyFor}
 use Rattle.drain_work.proofs.Sames.{same_roomed, ends_then}
 use Rattle.cancel_work.specs.Cancels.{queues_from, kept_by, IsCounted, HasRoomToCancel, Cancelled}
 
+-- what holds anyway
 pub on_err_always : {A E : Type 0} (r : Result A E) (P : Type 0) → P → OnErr r P
 on_err_always (Ok a) P p = tt
 on_err_always (Err e) P p = p
