@@ -1,5 +1,6 @@
 -- The event of a cancel ends.
 use Rattle.std.proofs.Common.{◌≡◌, ℕ, ◌≤◌, false, length, flat_map, refl, sym, ap, ◌∙◌, subst, arith}
+use Rattle.std.specs.Prelude.{Result, Ok, Err, OnErr}
 use Rattle.ndis_base.specs.declared.Phase.{Phase}
 use Rattle.ndis_base.specs.declared.Phase.TheVariants as phase
 use Rattle.journal_types.specs.declared.Event.TheVariants as event
@@ -16,6 +17,11 @@ use Rattle.book_parts.proofs.Events.{Ends, did_event}
 use Rattle.drain_work.specs.Drains.{IsSame, IsRoomed, IsReadyFor}
 use Rattle.drain_work.proofs.Sames.{same_roomed, ends_then}
 use Rattle.cancel_work.specs.Cancels.{queues_from, kept_by, IsCounted, HasRoomToCancel, Cancelled}
+
+-- what holds anyway
+pub on_err_always : {A E : Type 0} (r : Result A E) (P : Type 0) → P → OnErr r P
+on_err_always (Ok a) P p = tt
+on_err_always (Err e) P p = p
 
 -- no filter is twice in the order
 distinct_at : (net : Net) (s : IsShaped net) (p : Phase) → net.phase ≡ p → IsDistinct net.modules.order

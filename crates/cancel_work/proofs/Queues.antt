@@ -181,7 +181,13 @@ module _ (old mid : BookView) (id n i f : ℕ) (d : IsDistinct old.tray.net.modu
       let behind = room_behind r c in
       omega (arith, c.most, e.most, here.low, behind.low, one)
 
--- what they keep
+-- what these modules keep
+pub kept_past : (held : HeldView) (ms : Modules) (i a : ℕ) → length ms.order ≤ i → a ≡ length held.miniport.kept → 0 + a ≡ kept_by held (queues_from ms i)
+kept_past held ms i a past here =
+    let all = sum_by-cons (λ j. length (kept_of held j)) Miniport [] in
+    let from : kept_by held (queues_from ms i) ≡ kept_by held (Miniport ∷ []) = ap (kept_by held) (queues_past ms i past) in
+    omega (arith, all, from, here)
+
 pub kept_here : (held : HeldView) (ms : Modules) (i f a b : ℕ) → i < length ms.order → f ≡ get_or ms.order i 0 → is_hold_filter ms f ≡ true → a ≡ length (kept_of held (Filter f)) → b ≡ kept_by held (queues_from ms (i + 1))
     → a + b ≡ kept_by held (queues_from ms i)
 kept_here held ms i f a b within is hold here behind =

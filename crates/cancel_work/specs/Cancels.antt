@@ -43,11 +43,12 @@ pub record TurnsBack (m : ModuleId) (id : ℕ) (kept : List ListView) (t : TrayV
   pub pool_is : pool' ≡ left.pool
   pub count : n + length kept' ≡ length kept
 
--- so did a filter, and nothing else of it changed; and the miniport
+-- so did a filter, and nothing else of it changed
 pub record FilterTurns (f id : ℕ) (s : FilterState) (t : TrayView) (pool : PoolView) (n : ℕ) (s' : FilterState) (t' : TrayView) (pool' : PoolView) : Type 0 where
   pub same : s' ≡ record s { kept = s'.kept }
   pub turns : TurnsBack (Filter f) id s.kept t pool n s'.kept t' pool'
 
+-- so did the miniport
 pub record MiniportTurns (id : ℕ) (s : MiniportState) (t : TrayView) (pool : PoolView) (n : ℕ) (s' : MiniportState) (t' : TrayView) (pool' : PoolView) : Type 0 where
   pub same : s' ≡ record s { kept = s'.kept }
   pub turns : TurnsBack Miniport id s.kept t pool n s'.kept t' pool'
