@@ -1,18 +1,19 @@
 -- The frames of a list, one after the other.
-use Rattle.std.proofs.Common.{◌≡◌, ◌≢◌, ℕ, zero, suc, ◌+◌, ◌<◌, ◌≤◌, Bool, true, false, List, [], ◌∷◌, ◌++◌, Option, Some, None, IsSome, length, take, slice_index_or, refl, sym, ap, ◌∙◌, subst, arith}
-use Rattle.std.proofs.lemmas.List.{take_more, take_at, append_cancel_left, length-append}
-use Rattle.std.proofs.lemmas.Option.{same_Some}
+use Rattle.std.proofs.Common.{◌≡◌, ◌≢◌, ℕ, ◌+◌, ◌<◌, ◌≤◌, Bool, true, false, List, [], ◌∷◌, ◌++◌, Option, Some, None, length, take, map, set, slice_index_or, All, refl, sym, ap, ◌∙◌, subst, arith}
+use Rattle.std.proofs.lemmas.List.{take_more, take_more_set, take_at, append_cancel_left, length-append, length-map, length-take-le, map-append, get_or-map, get_or-take}
 use Rattle.std.proofs.lemmas.Slice.Eq.{bytes_eq-Decides}
 use Rattle.std.specs.Cmp.Lexicographic.{pointwise_decides}
 use Rattle.program_types.specs.declared.Rule.{Rule}
 use Rattle.program_types.specs.Apply.{apply, onto, applied}
 use Rattle.frame_rules.specs.declared.applying.Verdict.{Verdict}
 use Rattle.frame_rules.specs.declared.applying.Verdict.TheVariants.{Same, Changed, Drop}
+use Rattle.frame_rules.specs.Space.{Space}
 use Rattle.frame_rules.specs.Tells.{Tells}
 use Rattle.stack_rules.specs.Tests.{same_frames}
-use Rattle.hand_lemmas.specs.Frames.{IsFrame, AreSized, AreAddressed}
-use Rattle.hand_lemmas.proofs.Frames.{applied_sized, apply_frame}
-use Rattle.frame_programs.specs.Judged.{both, IsOther, Judges, IsMadeOf}
+use Rattle.hand_lemmas.specs.Frames.{AreSized, AreAddressed}
+use Rattle.hand_lemmas.proofs.Frames.{applied_sized}
+use Rattle.frame_programs.specs.Judged.{both, Judges, IsMadeOf}
+use Rattle.frame_programs.specs.Spaces.{written}
 
 -- one more frame behind those that are there
 abbrev pub push : Option (List (List ℕ)) → Option (List ℕ) → Option (List (List ℕ))
@@ -40,77 +41,44 @@ front_same xs ys a b e =
     let as_long : length ys ≡ length xs = omega (arith, ap length e, length-append xs (a ∷ []), length-append ys (b ∷ [])) in
     sym (take_at xs (a ∷ []) (length xs) refl) ∙ ap (take (length xs)) e ∙ take_at ys (b ∷ []) (length xs) as_long
 
-last_same : (xs : List (List ℕ)) (a b : List ℕ) → xs ++ a ∷ [] ≡ xs ++ b ∷ [] → a ≡ b
-last_same xs a b e = let one : a ∷ [] ≡ b ∷ [] = append_cancel_left xs (a ∷ []) (b ∷ []) e in cc
+last_same : (xs ys : List (List ℕ)) (a b : List ℕ) → xs ≡ ys → xs ++ a ∷ [] ≡ ys ++ b ∷ [] → a ≡ b
+last_same xs ys a b same e = let one : a ∷ [] ≡ b ∷ [] = append_cancel_left ys (a ∷ []) (b ∷ []) (ap (λ (fs : List (List ℕ)). fs ++ a ∷ []) (sym same) ∙ e) in cc
 
 -- the verdict on all frames so far, and on one more
-pub judged_push : (v w : Verdict) (value : Option (List (List ℕ))) (one : Option (List ℕ)) (fs : List (List ℕ)) (f written : List ℕ) → Judges v value fs → Tells w one f written → Judges (both v w) (push value one) (fs ++ f ∷ [])
-judged_push Drop w value one fs f written j t = ap (λ x. push x one) j
-judged_push Same Drop value one fs f written j t = ap (λ x. push x one) j ∙ ap (push (Some fs)) t
-judged_push Same Same value one fs f written j t = ap (λ x. push x one) j ∙ ap (push (Some fs)) t.0
-judged_push Same Changed value one fs f written j t = record {
-  made = fs ++ written ∷ [];
-  is = ap (λ x. push x one) j ∙ ap (push (Some fs)) t.0;
-  other = λ e. t.1 (last_same fs written f e);
-}
-judged_push Changed Drop value one fs f written j t = ap (λ x. push x one) j.is ∙ ap (push (Some j.made)) t
-judged_push Changed Same value one fs f written j t = record {
-  made = j.made ++ f ∷ [];
-  is = ap (λ x. push x one) j.is ∙ ap (push (Some j.made)) t.0;
-  other = λ e. j.other (front_same j.made fs f f e);
-}
-judged_push Changed Changed value one fs f written j t = record {
-  made = j.made ++ written ∷ [];
-  is = ap (λ x. push x one) j.is ∙ ap (push (Some j.made)) t.0;
-  other = λ e. j.other (front_same j.made fs written f e);
-}
+pub judged_push : (v w : Verdict) (value : Option (List (List ℕ))) (one : Option (List ℕ)) (fs made : List (List ℕ)) (f wrote : List ℕ) → Judges v value fs made → Tells w one f wrote → Judges (both v w) (push value one) (fs ++ f ∷ []) (made ++ wrote ∷ [])
+judged_push Drop w value one fs made f wrote j t = ap (λ x. push x one) j
+judged_push Same Drop value one fs made f wrote j t = ap (λ x. push x one) j.0 ∙ ap (push (Some fs)) t
+judged_push Same Same value one fs made f wrote j t = (ap (λ x. push x one) j.0 ∙ ap (push (Some fs)) t.0, ap (λ (xs : List (List ℕ)). xs ++ wrote ∷ []) j.1 ∙ ap (λ (x : List ℕ). fs ++ x ∷ []) t.1)
+judged_push Same Changed value one fs made f wrote j t = (
+  ap (λ x. push x one) j.0 ∙ ap (push (Some fs)) t.0 ∙ ap (λ (xs : List (List ℕ)). Some (xs ++ wrote ∷ [])) (sym j.1),
+  λ e. t.1 (last_same made fs wrote f j.1 e),
+)
+judged_push Changed Drop value one fs made f wrote j t = ap (λ x. push x one) j.0 ∙ ap (push (Some made)) t
+judged_push Changed Same value one fs made f wrote j t = (
+  ap (λ x. push x one) j.0 ∙ ap (push (Some made)) t.0 ∙ ap (λ (x : List ℕ). Some (made ++ x ∷ [])) (sym t.1),
+  λ e. j.1 (front_same made fs wrote f e),
+)
+judged_push Changed Changed value one fs made f wrote j t = (ap (λ x. push x one) j.0 ∙ ap (push (Some made)) t.0, λ e. j.1 (front_same made fs wrote f e))
+
+-- what stands in one more space
+pub written_more : (spaces : List Space) (i : ℕ) (d : Space) → i < length spaces → written spaces (i + 1) ≡ written spaces i ++ (slice_index_or spaces i d).bytes ∷ []
+written_more spaces i d within = ap (map (λ (s : Space). s.bytes)) (take_more spaces i d within) ∙ map-append (λ (s : Space). s.bytes) (take i spaces) (slice_index_or spaces i d ∷ [])
+
+written_set : (spaces : List Space) (i : ℕ) (s : Space) → i < length spaces → written (set spaces i s) (i + 1) ≡ written spaces i ++ s.bytes ∷ []
+written_set spaces i s within = ap (map (λ (s : Space). s.bytes)) (take_more_set spaces i s within) ∙ map-append (λ (s : Space). s.bytes) (take i spaces) (s ∷ [])
 
 -- so the verdict on the first i frames becomes one on the first i + 1
-pub judged_more : (rules : List Rule) (frames : List (List ℕ)) (i : ℕ) (v w r : Verdict) (f written : List ℕ) → i < length frames → f ≡ slice_index_or frames i [] → r ≡ both v w → Judges v (applied 1518 rules (take i frames)) (take i frames)
-    → Tells w (apply 1518 rules f) f written → Judges r (applied 1518 rules (take (i + 1) frames)) (take (i + 1) frames)
-judged_more rules frames i v w r f written within is verdict j t =
+pub judged_more : (rules : List Rule) (frames : List (List ℕ)) (spaces : List Space) (i : ℕ) (s : Space) (v w r : Verdict) (f : List ℕ) → i < length frames → i < length spaces → f ≡ slice_index_or frames i [] → r ≡ both v w
+    → Judges v (applied 1518 rules (take i frames)) (take i frames) (written spaces i) → Tells w (apply 1518 rules f) f s.bytes
+    → Judges r (applied 1518 rules (take (i + 1) frames)) (take (i + 1) frames) (written (set spaces i s) (i + 1))
+judged_more rules frames spaces i s v w r f within inside is verdict j t =
     let more : take (i + 1) frames ≡ take i frames ++ f ∷ [] = take_more frames i [] within ∙ ap (λ (x : List ℕ). take i frames ++ x ∷ []) (sym is) in
-    let all : Judges (both v w) (applied 1518 rules (take i frames ++ f ∷ [])) (take i frames ++ f ∷ []) =
-    subst (λ value. Judges (both v w) value (take i frames ++ f ∷ [])) (sym (applied_push 1518 rules (take i frames) f)) (judged_push v w (applied 1518 rules (take i frames)) (apply 1518 rules f) (take i frames) f written j t) in
-    subst (λ x. Judges x (applied 1518 rules (take (i + 1) frames)) (take (i + 1) frames)) (sym verdict) (subst (λ fs. Judges (both v w) (applied 1518 rules fs) fs) (sym more) all)
-
--- a frame of which the program makes none drops the list
-onto_no_others : (a : Option (List ℕ)) → onto a None ≡ None
-onto_no_others None = refl
-onto_no_others (Some f) = refl
-
-pub dropped_list : (max : ℕ) (rules : List Rule) (frames : List (List ℕ)) (i : ℕ) → i < length frames → apply max rules (slice_index_or frames i []) ≡ None → applied max rules frames ≡ None
-dropped_list max rules [] i within none = absurd (omega arith)
-dropped_list max rules (x ∷ xs) zero within none = ap (λ a. onto a (applied max rules xs)) none
-dropped_list max rules (x ∷ xs) (suc i) within none = ap (onto (apply max rules x)) (dropped_list max rules xs i (omega arith) none) ∙ onto_no_others (apply max rules x)
-
--- what was written is what the program made, where it made a frame
-pub made_is_written : (w : Verdict) (one : Option (List ℕ)) (f written : List ℕ) → Tells w one f written → one ≢ None → one ≡ Some written
-made_is_written Drop one f written t some = absurd (some t)
-made_is_written Same one f written t some = t.0 ∙ ap (λ (x : List ℕ). Some x) (sym t.1)
-made_is_written Changed one f written t some = t.0
-
-some_is_not_none : (o : Option (List (List ℕ))) → IsSome o → o ≢ None
-some_is_not_none None some e = cc
-some_is_not_none (Some x) some e = cc
-
--- the frame at i, as the program makes it, and all frames up to it
-pub record IsRemade (rules : List Rule) (frames : List (List ℕ)) (i : ℕ) (made : List (List ℕ)) (written : List ℕ) : Type 0 where
-  pub short : length written ≤ 1518
-  pub all : applied 1518 rules (take (i + 1) frames) ≡ Some (made ++ written ∷ [])
-
-pub remade_more : (rules : List Rule) (frames : List (List ℕ)) (i : ℕ) (made : List (List ℕ)) (w : Verdict) (f written : List ℕ) → i < length frames → f ≡ slice_index_or frames i [] → IsSome (applied 1518 rules frames)
-    → AreAddressed rules → AreSized frames → applied 1518 rules (take i frames) ≡ Some made → Tells w (apply 1518 rules f) f written → IsRemade rules frames i made written
-remade_more rules frames i made w f written within is some six sized so_far t =
-    let frame : IsFrame 1518 f = subst (IsFrame 1518) (sym is) (sized.each i [] within) in
-    let one : apply 1518 rules f ≡ Some written = made_is_written w (apply 1518 rules f) f written t (λ none. some_is_not_none (applied 1518 rules frames) some (dropped_list 1518 rules frames i within (ap (apply 1518 rules) (sym is) ∙ none))) in
-    let made_one : IsFrame 1518 written = apply_frame 1518 rules f written six frame one in
-    record {
-      short = made_one.short;
-      all =
-          ap (applied 1518 rules) (take_more frames i [] within ∙ ap (λ (x : List ℕ). take i frames ++ x ∷ []) (sym is))
-          ∙ applied_push 1518 rules (take i frames) f ∙ ap (λ x. push x (apply 1518 rules f)) so_far ∙ ap (push (Some made)) one;
-    }
+    let wrote = written spaces i ++ s.bytes ∷ [] in
+    let all : Judges (both v w) (applied 1518 rules (take i frames ++ f ∷ [])) (take i frames ++ f ∷ []) wrote =
+    subst (λ value. Judges (both v w) value (take i frames ++ f ∷ []) wrote) (sym (applied_push 1518 rules (take i frames) f)) (judged_push v w (applied 1518 rules (take i frames)) (apply 1518 rules f) (take i frames) (written spaces i) f s.bytes j t) in
+    let grown : Judges (both v w) (applied 1518 rules (take (i + 1) frames)) (take (i + 1) frames) wrote = subst (λ fs. Judges (both v w) (applied 1518 rules fs) fs wrote) (sym more) all in
+    subst (λ x. Judges x (applied 1518 rules (take (i + 1) frames)) (take (i + 1) frames) (written (set spaces i s) (i + 1))) (sym verdict)
+    (subst (λ xs. Judges (both v w) (applied 1518 rules (take (i + 1) frames)) (take (i + 1) frames) xs) (sym (written_set spaces i s inside)) grown)
 
 -- the test of frames tells which are the same
 pub other_frames : (made frames : List (List ℕ)) → made ≢ frames → same_frames made frames ≡ false
@@ -120,11 +88,21 @@ other_frames made frames other = by_test (same_frames made frames) (pointwise_de
     by_test true same = absurd (other (same refl))
     by_test false same = refl
 
-pub is_made_of : (rules : List Rule) (frames made : List (List ℕ)) → AreAddressed rules → AreSized frames → IsOther (applied 1518 rules frames) frames → applied 1518 rules frames ≡ Some made → IsMadeOf (applied 1518 rules frames) frames made
-is_made_of rules frames made six sized changed is =
-    let same : changed.made ≡ made = same_Some changed.made made (sym changed.is ∙ is) in
-    record {
-      is = is;
-      other = other_frames made frames (λ e. changed.other (same ∙ e));
-      sized = applied_sized rules frames made six sized is;
-    }
+pub is_made_of : (rules : List Rule) (frames made : List (List ℕ)) → AreAddressed rules → AreSized frames → Judges Changed (applied 1518 rules frames) frames made → IsMadeOf (applied 1518 rules frames) frames made
+is_made_of rules frames made six sized changed = record {
+  is = changed.0;
+  other = other_frames made frames changed.1;
+  sized = applied_sized rules frames made six sized changed.0;
+}
+
+-- what stands in one of the first so many spaces
+pub short_at : (spaces : List Space) (many i : ℕ) (s : Space) → i < many → many ≤ length spaces → s ≡ slice_index_or spaces i s → All (λ (f : List ℕ). length f ≤ 1518) (written spaces many) → length s.bytes ≤ 1518
+short_at spaces many i s below within is short =
+    let inside : i < length (take many spaces) = omega (arith, length-take-le many spaces within, below) in
+    let counted : i < length (written spaces many) = omega (arith, length-map (take many spaces) (λ (s : Space). s.bytes), inside) in
+    let here : slice_index_or (written spaces many) i s.bytes ≡ s.bytes = get_or-map (λ (s : Space). s.bytes) (take many spaces) i s s.bytes inside ∙ ap (λ (s : Space). s.bytes) (get_or-take many spaces i s below ∙ sym is) in
+    subst (λ (f : List ℕ). length f ≤ 1518) here (short i s.bytes counted)
+
+-- frames that fit a list are short
+pub short_frames : (made : List (List ℕ)) → AreSized made → All (λ (f : List ℕ). length f ≤ 1518) made
+short_frames made sized = sized.fits.short

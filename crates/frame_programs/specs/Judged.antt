@@ -13,17 +13,12 @@ both Changed Drop = Drop
 both Changed Same = Changed
 both Changed Changed = Changed
 
--- the program made others of the frames
-pub record IsOther (value : Option (List (List ℕ))) (frames : List (List ℕ)) : Type 0 where
-  pub made : List (List ℕ)
-  pub is : value ≡ Some made
-  pub other : made ≢ frames
-
--- Drop where the program made none, Same where it made the frames themselves, else Changed
-abbrev pub Judges : Verdict → Option (List (List ℕ)) → List (List ℕ) → Type 0
-Judges Drop value frames = value ≡ None
-Judges Same value frames = value ≡ Some frames
-Judges Changed value frames = IsOther value frames
+-- Drop where the program made none, Same where it made the frames themselves, else Changed. Where it made some, those
+-- were written.
+abbrev pub Judges : Verdict → Option (List (List ℕ)) → List (List ℕ) → List (List ℕ) → Type 0
+Judges Drop value frames written = value ≡ None
+Judges Same value frames written = (value ≡ Some frames) × (written ≡ frames)
+Judges Changed value frames written = (value ≡ Some written) × (written ≢ frames)
 
 -- these are what the program made: not the frames that there were, and fit for a list
 pub record IsMadeOf (value : Option (List (List ℕ))) (frames made : List (List ℕ)) : Type 0 where

@@ -1,8 +1,9 @@
 //! Whether a program drops, keeps or changes the frames of a list.
-ghost use Rattle.std.specs.Prelude.{◌≡◌, ◌≤◌};
+ghost use Rattle.std.specs.Prelude.{◌≡◌, ◌≤◌, All, length, vec_len};
 ghost use Rattle.program_types.specs.Apply.{applied};
 ghost use Rattle.hand_lemmas.specs.Frames.{AreSized};
 ghost use Rattle.frame_programs.specs.Judged.{Judges, both};
+ghost use Rattle.frame_programs.specs.Spaces.{HasRoom, written};
 
 use crate::spares::LONGEST;
 use buffer_pools::BufferList;
@@ -22,16 +23,18 @@ fn both(before: Verdict, next: Verdict) -> Verdict
     }
 }
 
-/// What becomes of the frames of a list, each tried in the space.
-pub(crate) fn judge(program: &Program, list: &BufferList, space: &mut NetSpace) -> Verdict
+/// What becomes of the frames of a list. What the program makes of each stands in a space of its own.
+pub(crate) fn judge(program: &Program, list: &BufferList, spaces: &mut Vec<NetSpace>) -> Verdict
     requires sized { AreSized list.now.frames }
-    requires room { 1518 ≤ space.old.room }
-    ensures verdict { Judges result (applied 1518 program.now list.now.frames) list.now.frames }
-    ensures room { space.new.room ≡ space.old.room }
+    requires spaces { length list.now.frames ≤ vec_len spaces.old }
+    requires room { All HasRoom spaces.old.items }
+    ensures verdict { Judges result (applied 1518 program.now list.now.frames) list.now.frames (written spaces.new.items (length list.now.frames)) }
+    ensures spaces { vec_len spaces.new ≡ vec_len spaces.old }
+    ensures room { All HasRoom spaces.new.items }
 {
     let mut verdict = Verdict::Same;
     for i in 0..list.buffers() {
-        let next = apply_into(program, LONGEST, list.frame(i).data(), space);
+        let next = apply_into(program, LONGEST, list.frame(i).data(), &mut spaces[i]);
         verdict = both(verdict, next);
     }
     verdict

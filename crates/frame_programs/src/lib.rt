@@ -4,8 +4,8 @@
 pub mod addresses;
 pub mod judging;
 pub mod made;
-pub mod remaking;
 pub mod spares;
+pub mod wrapping;
 
 pub use crate::made::MadeFrames;
 pub use frame_rules::Verdict;

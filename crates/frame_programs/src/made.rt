@@ -1,13 +1,14 @@
 //! Frames as programs leave them.
-ghost use Rattle.std.specs.Prelude.{◌≡◌, ◌≤◌, OnOk, IfOk, vec_len};
+ghost use Rattle.std.specs.Prelude.{◌≡◌, ◌≤◌, [], OnOk, All, vec_len};
 ghost use Rattle.program_types.specs.Apply.{applied};
 ghost use Rattle.hand_lemmas.specs.Frames.{AreSized};
 ghost use Rattle.frame_programs.specs.Judged.{Leaves};
+ghost use Rattle.frame_programs.specs.Spaces.{HasRoom};
 
 use crate::addresses::tell_addresses;
 use crate::judging::judge;
-use crate::remaking::remake;
 use crate::spares::{LONGEST, SpareBytes};
+use crate::wrapping::wrap;
 use buffer_pools::BufferList;
 use frame_rules::{NetSpace, Verdict};
 use ndis_base::{Frame, OutOfMemory};
@@ -23,7 +24,7 @@ const FRAMES: usize = 8;
 #[derive(Drop)]
 pub struct MadeFrames {
     alloc: Global,
-    space: NetSpace,
+    spaces: Vec<NetSpace>,
     spares: Vec<SpareBytes>,
     made: Vec<Frame>,
     room: usize,
@@ -41,7 +42,18 @@ impl Model for MadeFrames {
     ghost invariant = { IsMade };
 }
 
-fn fill_up(alloc: Global, spares: &mut Vec<SpareBytes>) -> Result<(), OutOfMemory>
+fn fill_spaces(alloc: Global, spaces: &mut Vec<NetSpace>) -> Result<(), OutOfMemory>
+    requires { All HasRoom spaces.old.items }
+    ensures many { OnOk result (8 ≤ vec_len spaces.new) }
+    ensures room { All HasRoom spaces.new.items }
+{
+    while spaces.len() < FRAMES {
+        spaces.push(NetSpace::make(alloc, LONGEST)?)?;
+    }
+    Ok(())
+}
+
+fn fill_spares(alloc: Global, spares: &mut Vec<SpareBytes>) -> Result<(), OutOfMemory>
     ensures { OnOk result (8 ≤ vec_len spares.new) }
 {
     while spares.len() < FRAMES {
@@ -51,17 +63,17 @@ fn fill_up(alloc: Global, spares: &mut Vec<SpareBytes>) -> Result<(), OutOfMemor
 }
 
 impl MadeFrames {
-    /// No frames, and no room for those of a list.
-    pub fn make(alloc: Global) -> Result<MadeFrames, OutOfMemory>
-        ensures { IfOk result (λ m. m.room ≡ 0) }
+    /// No frames, and no room for those of a list. It takes no memory.
+    pub fn empty(alloc: Global) -> MadeFrames
+        ensures { result ≡ record { frames = []; room = 0 } }
     {
-        Ok(MadeFrames {
+        MadeFrames {
             alloc,
-            space: NetSpace::make(alloc, LONGEST)?,
+            spaces: Vec::new(alloc),
             spares: Vec::new(alloc),
             made: Vec::new(alloc),
             room: 0,
-        })
+        }
     }
 
     /// Makes room for the frames of one list.
@@ -71,7 +83,8 @@ impl MadeFrames {
         if self.room == 0 {
             self.made.clear();
             self.made.reserve(FRAMES)?;
-            fill_up(self.alloc, &mut self.spares)?;
+            fill_spaces(self.alloc, &mut self.spaces)?;
+            fill_spares(self.alloc, &mut self.spares)?;
             self.room = 1;
         }
         Ok(())
@@ -84,17 +97,16 @@ impl MadeFrames {
         requires sized { AreSized list.now.frames }
         ensures { Leaves result (applied 1518 program.now list.now.frames) list.now.frames self.new.frames }
     {
-        match judge(program, list, &mut self.space) {
+        match judge(program, list, &mut self.spaces) {
             Verdict::Same => Verdict::Same,
             Verdict::Drop => Verdict::Drop,
             Verdict::Changed => {
                 tell_addresses(program.rules());
                 self.made.clear();
                 self.room = 0;
-                remake(
-                    program,
-                    list,
-                    &mut self.space,
+                wrap(
+                    list.buffers(),
+                    &self.spaces,
                     &mut self.spares,
                     &mut self.made,
                 );

@@ -1,5 +1,5 @@
 //! What filters with programs have in common.
-ghost use Rattle.std.specs.Prelude.{◌≡◌, ◌≤◌, [], false, None, Some, IfOk, OnOk, IsSome, length};
+ghost use Rattle.std.specs.Prelude.{◌≡◌, ◌≤◌, [], false, None, Some, OnOk, IsSome, length};
 ghost use Rattle.ndis_base.specs.declared.Direction.TheVariants as direction;
 ghost use Rattle.journal_types.specs.declared.Setup.{Setup};
 ghost use Rattle.promise_rules.specs.declared.Called.TheVariants as called;
@@ -24,18 +24,18 @@ use std::alloc::Global;
 
 impl Programmed {
     /// On the shelf, and never called.
-    pub(crate) fn make(alloc: Global, kind: FilterKind) -> Result<Programmed, OutOfMemory>
+    pub(crate) fn make(alloc: Global, kind: FilterKind) -> Programmed
         requires { is_hold kind ≡ false }
-        ensures { IfOk result (λ p. programmed_state p ≡ new_filter kind) }
+        ensures { programmed_state result ≡ new_filter kind }
     {
-        Ok(Programmed {
+        Programmed {
             kind,
             setup: None,
             served: not_called(),
             refusals: 0,
             kept: KeptLists::empty(alloc),
-            made: MadeFrames::make(alloc)?,
-        })
+            made: MadeFrames::empty(alloc),
+        }
     }
 
     /// How many lists it keeps.

@@ -21,12 +21,12 @@ pub struct RuleFilter {
 }
 
 impl RuleFilter {
-    /// A filter on the shelf that was never called.
+    /// A filter on the shelf that was never called. It takes no memory.
     pub fn make(alloc: Global) -> Result<RuleFilter, OutOfMemory>
         ensures { IfOk result (λ f. ⟦<RuleFilter as FilterDriver>⟧.state f ≡ new_filter Rule) }
     {
         Ok(RuleFilter {
-            core: Programmed::make(alloc, FilterKind::Rule)?,
+            core: Programmed::make(alloc, FilterKind::Rule),
         })
     }
 }

@@ -26,12 +26,12 @@ pub struct TagFilter {
 }
 
 impl TagFilter {
-    /// A filter on the shelf that was never called.
+    /// A filter on the shelf that was never called. It takes no memory.
     pub fn make(alloc: Global) -> Result<TagFilter, OutOfMemory>
         ensures { IfOk result (λ f. ⟦<TagFilter as FilterDriver>⟧.state f ≡ new_filter Tag) }
     {
         Ok(TagFilter {
-            core: Programmed::make(alloc, FilterKind::Tag)?,
+            core: Programmed::make(alloc, FilterKind::Tag),
         })
     }
 }
