@@ -1,6 +1,5 @@
 //! A list, by what the program of its direction makes of its frames.
 ghost use Rattle.std.specs.Prelude.{◌≡◌, ◌≤◌};
-ghost use Rattle.buffer_pools.specs.Views.{ListView};
 ghost use Rattle.stack_rules.specs.Handled.{program};
 ghost use Rattle.hand_lemmas.specs.Frames.{AreSized};
 ghost use Rattle.driver_calls.specs.Rooms.{HasRoomForNew};

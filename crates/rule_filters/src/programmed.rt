@@ -1,7 +1,6 @@
 //! What filters with programs have in common.
-ghost use Rattle.std.specs.Prelude.{◌≡◌, ◌≤◌, [], false, None, Some, OnOk, IsSome, length};
+ghost use Rattle.std.specs.Prelude.{◌≡◌, ◌≤◌, false, None, Some, OnOk, IsSome, length};
 ghost use Rattle.ndis_base.specs.declared.Direction.TheVariants as direction;
-ghost use Rattle.journal_types.specs.declared.Setup.{Setup};
 ghost use Rattle.promise_rules.specs.declared.Called.TheVariants as called;
 ghost use Rattle.stack_rules.specs.Tests.{is_hold};
 ghost use Rattle.hand_lemmas.specs.Frames.{AreSized};
