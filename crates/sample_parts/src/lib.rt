@@ -16,6 +16,7 @@ use ndis_base::OutOfMemory;
 use ndis_cli::{Status, ndis_serial};
 use outside_io::{Sink, Source};
 use ring_adapters::{LoopAdapter, RingAdapter};
+use rule_filters::{RuleFilter, TagFilter};
 use std::alloc::Global;
 
 /// How many drivers of each kind are handed in.
@@ -138,6 +139,8 @@ pub fn call_over<S: Source, K: Sink>(
         shelf.push(Box::new(alloc, PassFilter::make(alloc)?)?)?;
         shelf.push(Box::new(alloc, HoldFilter::make(alloc)?)?)?;
         shelf.push(Box::new(alloc, CountFilter::make(alloc)?)?)?;
+        shelf.push(Box::new(alloc, RuleFilter::make(alloc)?)?)?;
+        shelf.push(Box::new(alloc, TagFilter::make(alloc)?)?)?;
     }
     let mut parts = Vec::with_capacity(alloc, 1)?;
     parts.push(StackDrivers {

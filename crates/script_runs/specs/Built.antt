@@ -28,8 +28,8 @@ use Rattle.book_scripts.specs.Scripts.{is_asked_call}
 abbrev pub head_of : StackSetup → StackHead
 head_of s = record { stack = 0; kind = s.miniport.kind; port = s.miniport.port; link = s.miniport.link; bindings = s.bindings; uppers = [] }
 
--- the kinds of drivers that can be run: adapters with a ring, protocols that log, retain or echo, and filters without
--- programs
+-- the kinds of drivers that can be run: adapters with a ring, protocols that log, retain or echo, and filters of every
+-- kind but those that classify
 abbrev pub is_built_miniport : MiniportKind → Bool
 is_built_miniport miniport_kind.Virtual = false
 is_built_miniport _ = true
@@ -39,10 +39,8 @@ is_built_binding (protocol_kind.Mux, pool) = false
 is_built_binding _ = true
 
 abbrev pub is_built_kind : FilterKind → Bool
-is_built_kind filter_kind.Pass = true
-is_built_kind filter_kind.Hold = true
-is_built_kind filter_kind.Count = true
-is_built_kind _ = false
+is_built_kind filter_kind.Classify = false
+is_built_kind _ = true
 
 abbrev pub is_built_filter : FilterSetup → Bool
 is_built_filter f = is_built_kind f.kind && is_setup f.setup

@@ -15,7 +15,7 @@ use script_types::{Call, CallKind, FilterSetup, Script, StackSetup};
 use std::alloc::Global;
 
 /// Whether a script can be run: one stack of an adapter with a ring, of 1 to 8 protocols that
-/// log, retain or echo, and of at most 16 filters that pass, hold or count; and calls of the script's lanes
+/// log, retain or echo, and of at most 16 filters that don't classify; and calls of the script's lanes
 /// that send, indicate, give back, cancel, transmit, pump, drain, pause, restart, or change the filters by such.
 pub fn is_built(script: &Script) -> bool
     ensures { result ≡ form.is_built script.now }
@@ -78,10 +78,7 @@ fn is_built_filter(filter: &FilterSetup) -> bool
 fn is_built_kind(kind: FilterKind) -> bool
     ensures { result ≡ form.is_built_kind kind }
 {
-    matches!(
-        kind,
-        FilterKind::Pass | FilterKind::Hold | FilterKind::Count
-    )
+    !matches!(kind, FilterKind::Classify)
 }
 
 fn is_setup(setup: &Setup) -> bool

@@ -1,0 +1,4 @@
+pub mod Made
+pub mod Inside
+pub mod Judged
+pub mod Spaces
