@@ -76,7 +76,7 @@ fn tell_of_nothing(rt: &HostRuntime) -> io::Result<()> {
     let Ok(mut sink) = MemorySink::make(alloc, ROOM, Vec::new(alloc)) else {
         return println!(rt; "nothing out of memory");
     };
-    let script = fs::read(rt, "first-path-1.script.json")?;
+    let script = fs::read(rt, "sends-1.script.json")?;
     let mut source = MemorySource::make(script, Vec::new(alloc));
     let status = run_without_parts(alloc, &["replay"], &mut source, &mut sink);
     tell(rt, "no parts", status, &sink)?;
@@ -87,8 +87,8 @@ fn tell_of_nothing(rt: &HostRuntime) -> io::Result<()> {
 /// Replays one script twice over the same drivers.
 fn compare_both(rt: &HostRuntime) -> io::Result<()> {
     let alloc = rt.alloc();
-    let script = fs::read(rt, "lists-and-pools-2.script.json")?;
-    let report = fs::read(rt, "lists-and-pools-2.report")?;
+    let script = fs::read(rt, "pools-2.script.json")?;
+    let report = fs::read(rt, "pools-2.report")?;
     let Ok(mut sink) = MemorySink::make(alloc, ROOM, Vec::new(alloc)) else {
         return println!(rt; "twice out of memory");
     };
