@@ -66,7 +66,13 @@ pub fn replay_in_order(
     sink: &mut MemorySink,
 ) -> Result<Status, OutOfMemory> {
     let mut source = MemorySource::make(Vec::from_slice(alloc, script)?, Vec::new(alloc));
-    run_over(alloc, drivers, &["replay", "--order", order], &mut source, sink)
+    run_over(
+        alloc,
+        drivers,
+        &["replay", "--order", order],
+        &mut source,
+        sink,
+    )
 }
 
 /// Replays a script twice over the same drivers, one report after the other.

@@ -34,13 +34,40 @@ fn lines_of_words(
 }
 
 /// One word twice, another word, no word, and an empty one.
-pub fn lines(alloc: Global, script: &[u8]) -> Result<String, OutOfMemory> {
+fn lines_without_order(alloc: Global, script: &[u8]) -> Result<String, OutOfMemory> {
     let mut lines = lines_of_words(alloc, "words replay replay", &["replay", "replay"], script)?;
     let more = lines_of_words(alloc, "word run", &["run"], script)?;
     lines.push_str(more.as_str())?;
     let more = lines_of_words(alloc, "no word", &[], script)?;
     lines.push_str(more.as_str())?;
     let more = lines_of_words(alloc, "an empty word", &[""], script)?;
+    lines.push_str(more.as_str())?;
+    Ok(lines)
+}
+
+/// Orders that are none, and orders in one word and in two.
+fn lines_of_orders(alloc: Global, script: &[u8]) -> Result<String, OutOfMemory> {
+    let empty = &["replay", "--order", ""];
+    let mut lines = lines_of_words(alloc, "an order without lanes", empty, script)?;
+    let ninth = &["replay", "--order", "0,8"];
+    let more = lines_of_words(alloc, "an order of a ninth lane", ninth, script)?;
+    lines.push_str(more.as_str())?;
+    let early = &["replay", "--order=0,"];
+    let more = lines_of_words(alloc, "an order that ends early", early, script)?;
+    lines.push_str(more.as_str())?;
+    let one = &["replay", "--order=7,0"];
+    let more = lines_of_words(alloc, "an order in one word", one, script)?;
+    lines.push_str(more.as_str())?;
+    let two = &["replay", "--order", "0"];
+    let more = lines_of_words(alloc, "an order in two words", two, script)?;
+    lines.push_str(more.as_str())?;
+    Ok(lines)
+}
+
+/// How calls with words of these kinds end.
+pub fn lines(alloc: Global, script: &[u8]) -> Result<String, OutOfMemory> {
+    let mut lines = lines_without_order(alloc, script)?;
+    let more = lines_of_orders(alloc, script)?;
     lines.push_str(more.as_str())?;
     Ok(lines)
 }
