@@ -6,8 +6,8 @@ ghost use Rattle.driver_views.specs.States.{FilterState};
 ghost use Rattle.driver_calls.specs.declared.faults.AttachFault.TheVariants.{Refused, Memory};
 ghost use Rattle.driver_calls.specs.Filters.{MayHandle, IsHandled, MayComplete, IsCompleted, MayGiveAll, IsCancelled, IsDrained, MayAttach, Refuses, IsLentTo};
 
-use crate::faults::AttachFault;
 use crate::fates::LentFate;
+use crate::faults::AttachFault;
 use buffer_pools::BufferList;
 use driver_tray::Tray;
 use driver_views::Served;
