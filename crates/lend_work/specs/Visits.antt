@@ -84,6 +84,7 @@ bench filters pools tray = record { filters = filters; pools = pools; tray = tra
 pub record VisitsAt (f place : ℕ) (l : ListView) (d : Bench) (went : Option ListStatus) (d' : Bench) : Type 0 where
   pub there : place < length d.filters
   pub housed : place < length d.pools
+  pub setup : IsSome (filter_at d.filters (Some place)).setup
   pub state : FilterState
   pub pool : PoolView
   pub visits : Visits f l (filter_at d.filters (Some place)) d.tray (pool_at d.pools (Some place)) went state d'.tray pool
