@@ -5,3 +5,5 @@ pub mod Arriving
 pub mod Carrying
 pub mod Along
 pub mod Copying
+pub mod Given
+pub mod Readied
