@@ -30,13 +30,14 @@ pub record Along (old new : BookView) (rows : List Row) (loose : List ListView) 
   pub used : HasUsed old.tray rows new.tray
   pub did : Did old.held.seats old.held new.held old.tray.net rows
   pub seats : new.held.seats ≡ old.held.seats
+  pub shelf : new.held.shelf ≡ old.held.shelf
   pub stands : Stands new.tray.net new.tray.queue new.held loose
 
 -- as the event begins
 pub along_none : {old : BookView} (t : TrayView) → IsBook old → Begins old.tray t [] → Along old (record { tray = t; held = old.held }) [] []
 along_none t k g =
     let e = ends_still t k g in
-    record { head = e.head; turns = e.turns; told_by = e.told_by; net = e.net; rows_are = e.rows_are; used = e.used; did = e.did; seats = refl; stands = e.stands }
+    record { head = e.head; turns = e.turns; told_by = e.told_by; net = e.net; rows_are = e.rows_are; used = e.used; did = e.did; seats = refl; shelf = refl; stands = e.stands }
 
 -- and as it ends
 pub along_ends : {old new : BookView} {rows : List Row} → Along old new rows [] → Ends old new rows
@@ -66,5 +67,6 @@ along_further {old} {t} {t'} {held} {m} {p} {rows} {more} held' pool a i c l rin
       did = did_then old.held.seats old.held held held' old.tray.net rows more a.did
           (subst (λ (n : Net). Did old.held.seats held held' n more) a.net (subst (λ ss. Did ss held held' t.net more) a.seats did));
       seats = l.seats ∙ a.seats;
+      shelf = l.shelf ∙ a.shelf;
       stands = leaves a.stands i c l ring;
     }

@@ -1,5 +1,6 @@
 -- A lent list at the bindings: the rows are those of the rules.
 use Rattle.std.proofs.Common.{◌≡◌, ℕ, ◌+◌, ◌-◌, ◌==◌, ◌≤◌, ◌<◌, Bool, true, false, cond, List, [], ◌∷◌, ◌++◌, All, length, slice_index, slice_index_or, slice_set, get_or-set_other, refl, sym, ap, ◌∙◌, subst, arith, append_assoc, append-nil}
+use Rattle.std.proofs.lemmas.List.{set-get_or}
 use Rattle.ndis_base.specs.declared.ListNo.{ListNo}
 use Rattle.ndis_base.specs.declared.ListStatus.{ListStatus}
 use Rattle.ndis_base.specs.declared.ListStatus.TheVariants.{Success, Paused}
@@ -219,7 +220,7 @@ arrived old held l many d d' rows status k i sized count some on c (stops still 
     (record {
       more = row.TurnBack l.label.number m Paused ∷ [];
       along = subst (λ (x : BookView). Along old x (rows ++ row.TurnBack l.label.number m Paused ∷ []) (l ∷ []))
-          (book_is held d' d.protocols protocols pools (sym (set_itself d.pools 0 no_pool (omega (arith, some)))) tray) further;
+          (book_is held d' d.protocols protocols pools (sym (set-get_or d.pools 0 no_pool)) tray) further;
       is = paused_is old.tray.net l idle;
       turns = omega (arith, c.turns, turns);
     })

@@ -7,3 +7,7 @@ pub mod Along
 pub mod Copying
 pub mod Given
 pub mod Readied
+pub mod Visited
+pub mod Delivered
+pub mod Ended
+pub mod Lending
