@@ -26,4 +26,7 @@ returns-in-Running-clause-turn g c =
     c.lend_running.ensures).turn
 
 pub returns-in_default-state_of : goal.returns-in_default-state_of
-returns-in_default-state_of g c = ?
+returns-in_default-state_of g c =
+    let e = stopped_event (view_of g.M.MiniportCalls.state g.P.ProtocolCalls.state g.F.FilterCalls.state c.args.book.now) (view_of g.M.MiniportCalls.state g.P.ProtocolCalls.state g.F.FilterCalls.state c.make_room.new.book)
+    c.in-Some.many c.args.frames.now c.state_of.result c.requires.book c.requires.idle c.make_room.ensures.roomed c.in_ok-make_room.ensures.ready c.state_of.ensures c.in_default-state_of.not-Running in
+    record { did = e.did; within = tt; turn = e.turn; memory = tt }
