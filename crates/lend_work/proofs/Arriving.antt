@@ -1,11 +1,11 @@
 -- A lent list at one binding after the other.
-use Rattle.std.proofs.Common.{◌≡◌, ℕ, zero, suc, ◌+◌, ◌-◌, ◌*◌, ◌≤◌, ◌<◌, Bool, true, false, cond, List, [], ◌∷◌, length, slice_set, length-set, refl, sym, ap, ◌∙◌, subst, arith}
+use Rattle.std.proofs.Common.{◌≡◌, ℕ, zero, suc, ◌+◌, ◌-◌, ◌*◌, ◌≤◌, ◌<◌, Bool, true, false, cond, List, [], ◌∷◌, length, length-set, sym, ap, ◌∙◌, subst, arith}
 use Rattle.ndis_base.specs.declared.ListStatus.{ListStatus}
 use Rattle.buffer_pools.specs.Views.{ListView}
 use Rattle.hand_lemmas.specs.Frames.{AreSized}
 use Rattle.driver_tray.specs.Tray.{TrayView}
 use Rattle.delivery_work.specs.Takers.{takers_from, passing, is_taker}
-use Rattle.delivery_work.specs.Desks.{Desk, LendsAt, MayDeliver, desk}
+use Rattle.delivery_work.specs.Desks.{Desk, LendsAt}
 use Rattle.delivery_work.proofs.Counting.{passing_same}
 use Rattle.delivery_work.proofs.Lent.{lent_so, may_next}
 use Rattle.lend_work.specs.Bindings.{LendsFrom, MayLendFrom, Arrives}

@@ -1,19 +1,17 @@
 -- What a lent list leaves of the room as it goes up.
-use Rattle.std.proofs.Common.{◌≡◌, ℕ, zero, suc, ◌+◌, ◌*◌, ◌≤◌, ◌<◌, Bool, true, false, cond, List, [], ◌∷◌, Option, Some, None, length, slice_index, refl, sym, ap, ◌∙◌, subst, arith}
-use Rattle.std.specs.List.{All, AllWithin}
+use Rattle.std.proofs.Common.{◌≡◌, ℕ, zero, suc, ◌+◌, ◌*◌, ◌≤◌, List, [], ◌∷◌, Option, None, length, slice_index, refl, sym, ap, ◌∙◌, subst, arith}
 use Rattle.ndis_base.specs.declared.ListStatus.{ListStatus}
-use Rattle.buffer_pools.specs.Views.{ListView, PoolView}
-use Rattle.stack_rules.specs.Net.{Net, Modules}
+use Rattle.buffer_pools.specs.Views.{ListView}
+use Rattle.stack_rules.specs.Net.{Modules}
 use Rattle.stack_rules.specs.Targets.{has_receive}
-use Rattle.hand_lemmas.specs.Frames.{AreSized}
 use Rattle.driver_tray.specs.Tray.{TrayView}
 use Rattle.book_lemmas.specs.Views.{BookView}
-use Rattle.delivery_work.specs.Desks.{Desk, CanTake, MayDeliver, HasRoomFrom, desk}
+use Rattle.delivery_work.specs.Desks.{HasRoomFrom, desk}
 use Rattle.lend_work.specs.Visits.{Bench, VisitsAt}
-use Rattle.lend_work.specs.Climbs.{Climbs, AtFilter, receivers}
+use Rattle.lend_work.specs.Climbs.{Climbs, receivers}
 use Rattle.lend_work.specs.Climbs.AtFilter.{ends, goes_on}
-use Rattle.lend_work.specs.Bindings.{MayLendFrom, Arrives}
-use Rattle.lend_work.specs.Lends.{Carries, HasRoom, MayCarry, desk_of}
+use Rattle.lend_work.specs.Bindings.{MayLendFrom}
+use Rattle.lend_work.specs.Lends.{Carries, MayCarry}
 use Rattle.lend_work.specs.Lends.Carries.{stops, arrives}
 use Rattle.lend_work.proofs.Arriving.{arrived_rows, one_more}
 use Rattle.lend_work.proofs.Meeting.{went_on, visited_rows}

@@ -1,20 +1,20 @@
 -- A lent list at one filter after the other: what is known before each, and what is left for the next one.
-use Rattle.std.proofs.Common.{◌≡◌, ℕ, suc, ◌+◌, ◌-◌, ◌≤◌, ◌<◌, ◌*◌, ◌^◌, Bool, true, false, cond, List, [], ◌∷◌, Option, Some, None, IsSome, length, map, slice_index, slice_index_or, slice_set, length-set, refl, sym, ap, ◌∙◌, subst, arith}
+use Rattle.std.proofs.Common.{◌≡◌, ℕ, suc, ◌+◌, ◌-◌, ◌≤◌, ◌<◌, true, false, cond, List, ◌∷◌, Option, Some, None, IsSome, length, slice_index, slice_set, length-set, refl, sym, ap, ◌∙◌, subst, arith}
 use Rattle.std.proofs.lemmas.Bool.{cond-true, cond-false}
 use Rattle.ndis_base.specs.declared.ListStatus.{ListStatus}
 use Rattle.ndis_base.specs.declared.ModuleId.TheVariants.{Filter}
 use Rattle.journal_types.specs.declared.Handler.TheVariants as handler
 use Rattle.buffer_pools.specs.Views.{ListView, PoolView}
-use Rattle.stack_rules.specs.Net.{Net, Modules}
+use Rattle.stack_rules.specs.Net.{Modules}
 use Rattle.stack_rules.specs.Targets.{has_receive}
 use Rattle.promise_rules.specs.declared.Called.TheVariants as called
 use Rattle.driver_views.specs.States.{FilterState, times}
 use Rattle.driver_tray.specs.Tray.{TrayView, given}
 use Rattle.book_lemmas.specs.Views.{no_filter, no_pool, filter_at, pool_at, seat_of}
-use Rattle.lend_work.specs.Visits.{MayVisit, Bench, VisitsAt, Visits, bench}
-use Rattle.lend_work.specs.Climbs.{Climbs, AtFilter, IsPast, IsServed, HasRoomUp, MayClimb, receivers}
+use Rattle.lend_work.specs.Visits.{MayVisit, Bench, VisitsAt, bench}
+use Rattle.lend_work.specs.Climbs.{Climbs, IsServed, MayClimb, receivers}
 use Rattle.lend_work.specs.Climbs.AtFilter.{ends, goes_on}
-use Rattle.lend_work.proofs.Meeting.{WentOn, went_on}
+use Rattle.lend_work.proofs.Meeting.{went_on}
 use Rattle.lend_work.proofs.Placed.{still_at, more_at}
 
 same_place : (p q : ℕ) (o : Option ℕ) → o ≡ Some p → o ≡ Some q → p ≡ q

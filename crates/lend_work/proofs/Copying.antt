@@ -1,5 +1,5 @@
 -- Rows of lists that are lent: a copy goes on in the place of one, and one that is in hand is home.
-use Rattle.std.proofs.Common.{◌≡◌, ℕ, List, [], ◌∷◌, ◌++◌, None, All, refl, sym, ap, ◌∙◌, subst, arith, append_assoc, append-nil}
+use Rattle.std.proofs.Common.{◌≡◌, ℕ, List, [], ◌∷◌, ◌++◌, None, refl, sym, ap, ◌∙◌, subst, arith, append_assoc, append-nil}
 use Rattle.std.proofs.lemmas.List.Elements.{All-nil}
 use Rattle.flat_journal.proofs.Grown.{grown_by_frames}
 use Rattle.ndis_base.specs.declared.Direction.TheVariants as direction
@@ -16,11 +16,10 @@ use Rattle.stack_rules.specs.Net.{Net, after, lists, list_of}
 use Rattle.stack_rules.specs.Outcome.{root, list_no, config_no}
 use Rattle.stack_rules.specs.Places.{position}
 use Rattle.stack_rules.specs.Targets.{onward}
-use Rattle.stack_rules.specs.Tests.{same_module}
 use Rattle.promise_rules.specs.declared.Call.{Call}
 use Rattle.promise_rules.specs.Calls.{home_call, logged_at}
 use Rattle.hand_lemmas.specs.Frames.{AreSized}
-use Rattle.hand_lemmas.specs.Hands.{Common, Hands, in_hand, put_at}
+use Rattle.hand_lemmas.specs.Hands.{Common, Hands, put_at}
 use Rattle.hand_lemmas.proofs.Modules.{put_here}
 use Rattle.hand_lemmas.proofs.Rows.{agrees_same}
 use Rattle.hand_lemmas.proofs.Steps.{homed_loose}

@@ -1,12 +1,11 @@
 -- A lent list at the bindings: the rows are those of the rules.
-use Rattle.std.proofs.Common.{◌≡◌, ℕ, ◌+◌, ◌-◌, ◌==◌, ◌≤◌, ◌<◌, Bool, true, false, cond, List, [], ◌∷◌, ◌++◌, All, length, slice_index, slice_index_or, slice_set, get_or-set_other, refl, sym, ap, ◌∙◌, subst, arith, append_assoc, append-nil}
+use Rattle.std.proofs.Common.{◌≡◌, ℕ, ◌+◌, ◌-◌, ◌==◌, ◌≤◌, ◌<◌, Bool, true, false, cond, List, [], ◌∷◌, ◌++◌, length, slice_index, slice_index_or, slice_set, get_or-set_other, refl, sym, ap, ◌∙◌, subst, arith, append_assoc, append-nil}
 use Rattle.std.proofs.lemmas.List.{set-get_or}
 use Rattle.ndis_base.specs.declared.ListNo.{ListNo}
 use Rattle.ndis_base.specs.declared.ListStatus.{ListStatus}
 use Rattle.ndis_base.specs.declared.ListStatus.TheVariants.{Success, Paused}
 use Rattle.ndis_base.specs.declared.ModuleId.{ModuleId}
 use Rattle.ndis_base.specs.declared.ModuleId.TheVariants.{Binding}
-use Rattle.journal_types.specs.declared.How.{How}
 use Rattle.journal_types.specs.declared.How.TheVariants.{Lent}
 use Rattle.journal_types.specs.declared.Row.{Row}
 use Rattle.journal_types.specs.declared.Row.TheVariants as row
@@ -14,7 +13,7 @@ use Rattle.journal_types.specs.declared.StackHead.{StackHead}
 use Rattle.buffer_pools.specs.Views.{ListView, PoolView, live_count}
 use Rattle.stack_rules.specs.Deliveries.{echoes, echoed, delivered, how_for, takers, is_taken_by}
 use Rattle.stack_rules.specs.Heads.{kind_of_binding}
-use Rattle.stack_rules.specs.Net.{Net, Modules, after_rows}
+use Rattle.stack_rules.specs.Net.{Net, after_rows}
 use Rattle.stack_rules.specs.Places.{is_full}
 use Rattle.stack_rules.specs.Receives.{lent_home, lent_back, lent_delivery}
 use Rattle.stack_rules.specs.Tests.{phase_is_running}
@@ -23,7 +22,7 @@ use Rattle.promise_rules.specs.Calls.{call}
 use Rattle.driver_views.specs.States.{ProtocolState}
 use Rattle.hand_lemmas.specs.Frames.{AreSized}
 use Rattle.book_lemmas.specs.Called.{IsCalled, protocol_called}
-use Rattle.book_lemmas.specs.Views.{BookView, HeldView, no_pool, no_protocol, held_pool, hands_of}
+use Rattle.book_lemmas.specs.Views.{BookView, HeldView, no_pool, no_protocol}
 use Rattle.book_lemmas.proofs.Called.{protocol_is_called, protocol_leaves}
 use Rattle.driver_tray.specs.Tray.{TrayView}
 use Rattle.call_lemmas.specs.Served.{Counts}
@@ -35,10 +34,10 @@ use Rattle.book_parts.specs.Events.{IsBook, IsIdle}
 use Rattle.binding_work.specs.Sends.{called_with, binding_pooled}
 use Rattle.binding_work.proofs.Sending.{IsBound, head_is, is_bound, full_at}
 use Rattle.delivery_work.specs.Takers.{takers_from, passing}
-use Rattle.delivery_work.specs.Desks.{Desk, LendsAt, desk}
+use Rattle.delivery_work.specs.Desks.{Desk, LendsAt}
 use Rattle.delivery_work.proofs.Counting.{takers_passing}
 use Rattle.delivery_work.proofs.Written.{IsAfterOne, after_one, taker_is, echoes_is}
-use Rattle.lend_work.specs.Bindings.{LendsFrom, Arrives, turned_back_at}
+use Rattle.lend_work.specs.Bindings.{LendsFrom, Arrives}
 use Rattle.lend_work.specs.Bindings.Arrives.{lends, stops}
 use Rattle.lend_work.proofs.Along.{Along, along_enters, along_further}
 use Rattle.lend_work.proofs.Given.{IsOn}

@@ -1,22 +1,18 @@
 -- The event: a list is lent out, carried up and taken home, as the rules have it.
-use Rattle.std.proofs.Common.{◌≡◌, ◌≢◌, ℕ, zero, suc, ◌+◌, ◌≤◌, ◌<◌, ◌==◌, Bool, true, false, cond, List, [], ◌∷◌, ◌++◌, Option, Some, None, length, filter, take, reverse, slice_index, slice_index_or, refl, sym, ap, ◌∙◌, subst, arith, append_assoc, append-nil, ne_eqb, eq-eqb, add-one}
+use Rattle.std.proofs.Common.{◌≡◌, ℕ, zero, suc, ◌+◌, ◌≤◌, ◌<◌, Bool, true, false, cond, List, [], ◌∷◌, ◌++◌, Some, None, length, filter, take, reverse, slice_index, slice_index_or, refl, sym, ap, ◌∙◌, subst, arith, append_assoc}
 use Rattle.std.proofs.lemmas.List.{reverse-append, take_all}
 use Rattle.std.proofs.Math.Seq.{take-suc}
-use Rattle.ndis_base.specs.declared.Direction.{Direction}
 use Rattle.ndis_base.specs.declared.Direction.TheVariants as direction
-use Rattle.ndis_base.specs.declared.ListNo.{ListNo}
 use Rattle.ndis_base.specs.declared.ListStatus.{ListStatus}
-use Rattle.ndis_base.specs.declared.ModuleId.{ModuleId}
 use Rattle.ndis_base.specs.declared.ModuleId.TheVariants.{Miniport}
 use Rattle.journal_types.specs.declared.Row.{Row}
 use Rattle.journal_types.specs.declared.Row.TheVariants as row
 use Rattle.buffer_pools.specs.declared.label.Label.{Label}
-use Rattle.buffer_pools.specs.Views.{ListView, PoolView}
+use Rattle.buffer_pools.specs.Views.{ListView}
 use Rattle.stack_rules.specs.Net.{Net, Modules}
 use Rattle.stack_rules.specs.Outcome.{root, list_no}
-use Rattle.stack_rules.specs.Receives.{lent_home, lent_up, lent_rows, lent_delivery}
+use Rattle.stack_rules.specs.Receives.{lent_home, lent_up, lent_rows}
 use Rattle.stack_rules.specs.Targets.{has_receive}
-use Rattle.promise_rules.specs.declared.Call.{Call}
 use Rattle.promise_rules.specs.Calls.{home_call}
 use Rattle.hand_lemmas.specs.Frames.{AreSized}
 use Rattle.book_lemmas.specs.Called.{miniport_called}
@@ -28,17 +24,16 @@ use Rattle.call_lemmas.proofs.Served.{counts_none, did_miniport}
 use Rattle.book_parts.specs.Events.{IsBook, IsIdle}
 use Rattle.book_parts.proofs.Events.{Begins}
 use Rattle.binding_work.specs.Sends.{called_with}
-use Rattle.lend_work.specs.Visits.{Bench}
 use Rattle.lend_work.specs.Climbs.{Climbs, receivers}
 use Rattle.lend_work.specs.Lends.{LendsFor, TakesHome, Carries, pooled, bench_of, desk_of}
 use Rattle.lend_work.specs.Lends.Carries.{stops, arrives}
 use Rattle.lend_work.proofs.Along.{Along, along_none, along_enters, along_further}
 use Rattle.lend_work.proofs.Copying.{in_lent_out, in_homed}
-use Rattle.lend_work.proofs.Given.{IsOn, then_rows}
+use Rattle.lend_work.proofs.Given.{IsOn}
 use Rattle.lend_work.proofs.Readied.{is_receiver}
-use Rattle.lend_work.proofs.Visited.{IsClimbing, HasClimbed, AreReceivers, at_bench, climbed}
+use Rattle.lend_work.proofs.Visited.{IsClimbing, AreReceivers, climbed}
 use Rattle.lend_work.proofs.Visited.AreReceivers.{no_more, one_more}
-use Rattle.lend_work.proofs.Delivered.{IsArriving, HasArrived, at_desk, arrived}
+use Rattle.lend_work.proofs.Delivered.{IsArriving, at_desk, arrived}
 
 -- The filters that have the receive pair, the nearest first.
 

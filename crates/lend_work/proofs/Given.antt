@@ -1,5 +1,5 @@
 -- A lent list is given to one filter: the rows are those of the rules for what its program makes of the frames.
-use Rattle.std.proofs.Common.{◌≡◌, ◌≢◌, ℕ, ◌+◌, ◌==◌, ◌≤◌, Bool, true, false, List, [], ◌∷◌, ◌++◌, Option, Some, None, refl, sym, ap, ◌∙◌, subst, arith, append-nil, ne_eqb, eq-eqb}
+use Rattle.std.proofs.Common.{◌≡◌, ℕ, ◌+◌, ◌==◌, ◌≤◌, Bool, true, false, List, [], ◌∷◌, ◌++◌, Option, Some, None, refl, sym, ap, ◌∙◌, subst, arith, ne_eqb, eq-eqb}
 use Rattle.ndis_base.specs.declared.Direction.TheVariants as direction
 use Rattle.ndis_base.specs.declared.ListNo.{ListNo}
 use Rattle.ndis_base.specs.declared.ListStatus.{ListStatus}
@@ -9,19 +9,16 @@ use Rattle.program_types.specs.Apply.{applied}
 use Rattle.journal_types.specs.declared.Handler.TheVariants as handler
 use Rattle.journal_types.specs.declared.Row.{Row}
 use Rattle.journal_types.specs.declared.Row.TheVariants as row
-use Rattle.journal_types.specs.declared.Setup.{Setup}
-use Rattle.buffer_pools.specs.Views.{ListView, PoolView, live_count}
+use Rattle.buffer_pools.specs.Views.{ListView, live_count}
 use Rattle.stack_rules.specs.declared.Attached.{Attached}
 use Rattle.stack_rules.specs.Handled.{program}
 use Rattle.stack_rules.specs.Net.{Net, Modules, attached}
-use Rattle.stack_rules.specs.Outcome.{list_no}
 use Rattle.stack_rules.specs.Places.{is_full, state_in, state_of}
 use Rattle.stack_rules.specs.Receives.{lent_home, lent_at}
 use Rattle.stack_rules.specs.Tests.{is_running, same_frames}
 use Rattle.promise_rules.specs.declared.Call.{Call}
 use Rattle.promise_rules.specs.declared.Called.TheVariants as called
 use Rattle.promise_rules.specs.Calls.{call}
-use Rattle.hand_lemmas.specs.Frames.{AreSized}
 use Rattle.hand_lemmas.specs.Hands.{Hands}
 use Rattle.driver_views.specs.States.{FilterState, Record, called_for}
 use Rattle.driver_tray.specs.Tray.{TrayView, given}
@@ -33,7 +30,7 @@ use Rattle.call_lemmas.specs.InCall.{InCall}
 use Rattle.call_lemmas.specs.Served.{AreCallsOf, Counts}
 use Rattle.call_lemmas.proofs.Served.{counts_none, counts_call}
 use Rattle.call_lemmas.proofs.Steps.{in_given, in_turned_back}
-use Rattle.lend_work.specs.Visits.{Takes, Meets, went_by, settled, refused}
+use Rattle.lend_work.specs.Visits.{Meets, went_by, settled, refused}
 use Rattle.lend_work.specs.Visits.Meets.{takes, stops}
 use Rattle.lend_work.proofs.Copying.{copy_rows, in_copied}
 

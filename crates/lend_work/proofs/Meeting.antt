@@ -1,5 +1,5 @@
 -- What a filter leaves in the tray of a list that is lent to it.
-use Rattle.std.proofs.Common.{◌≡◌, ℕ, ◌+◌, ◌≤◌, true, false, List, Option, Some, None, IsSome, length, refl, sym, ap, ◌∙◌, subst, arith}
+use Rattle.std.proofs.Common.{◌≡◌, ℕ, ◌+◌, ◌≤◌, true, Option, Some, None, IsSome, refl, ap, ◌∙◌, subst, arith}
 use Rattle.std.proofs.lemmas.Bool.{false≢true}
 use Rattle.ndis_base.specs.declared.ListStatus.{ListStatus}
 use Rattle.ndis_base.specs.declared.ModuleId.TheVariants.{Filter}
@@ -7,15 +7,15 @@ use Rattle.journal_types.specs.declared.Handler.TheVariants as handler
 use Rattle.journal_types.specs.declared.Setup.{Setup}
 use Rattle.buffer_pools.specs.Views.{ListView, PoolView}
 use Rattle.stack_rules.specs.Places.{state_of}
-use Rattle.stack_rules.specs.Tests.{is_running, same_frames}
+use Rattle.stack_rules.specs.Tests.{is_running}
 use Rattle.promise_rules.specs.declared.Called.TheVariants as called
 use Rattle.driver_views.specs.States.{FilterState, called_for}
 use Rattle.driver_tray.specs.Tray.{TrayView, given}
 use Rattle.driver_calls.specs.declared.fates.LentFate.{LentFate}
 use Rattle.driver_calls.specs.declared.fates.LentFate.TheVariants as fate
-use Rattle.driver_calls.specs.Filters.{made_by, IsLentTo, HandlesLent}
+use Rattle.driver_calls.specs.Filters.{IsLentTo, HandlesLent}
 use Rattle.driver_calls.specs.Filters.HandlesLent.{leaves, drops, lacks, copies}
-use Rattle.lend_work.specs.Visits.{Takes, Meets, Visits, went_by, settled, refused}
+use Rattle.lend_work.specs.Visits.{Meets, Visits, went_by, settled}
 use Rattle.lend_work.specs.Visits.Meets.{takes, stops}
 
 -- a set-up is there

@@ -1,18 +1,15 @@
 -- A book with room for a lent list: it may be lent out, and then carried up.
-use Rattle.std.proofs.Common.{◌≡◌, ℕ, zero, suc, ◌+◌, ◌*◌, ◌≤◌, ◌<◌, ◌==◌, ◌||◌, Bool, true, false, cond, List, [], ◌∷◌, Option, Some, None, IsSome, length, find, slice_index, slice_index_or, refl, sym, ap, ◌∙◌, subst, arith}
-use Rattle.std.specs.List.{All, list_any}
+use Rattle.std.proofs.Common.{◌≡◌, ℕ, zero, suc, ◌+◌, ◌≤◌, ◌<◌, ◌==◌, ◌||◌, Bool, true, false, cond, List, [], ◌∷◌, Option, Some, None, IsSome, length, find, slice_index, refl, sym, ap, ◌∙◌, subst, arith}
+use Rattle.std.specs.List.{list_any}
 use Rattle.std.proofs.lemmas.Bool.{false≢true}
 use Rattle.std.proofs.lemmas.Bool.Decides.{nat_tests}
-use Rattle.std.proofs.lemmas.List.Elements.{All-from_get_or}
-use Rattle.ndis_base.specs.declared.Direction.TheVariants as direction
 use Rattle.ndis_base.specs.declared.ModuleId.{ModuleId}
-use Rattle.ndis_base.specs.declared.ModuleId.TheVariants.{Miniport, Filter, Binding}
-use Rattle.journal_types.specs.declared.StackHead.{StackHead}
+use Rattle.ndis_base.specs.declared.ModuleId.TheVariants.{Miniport, Filter}
 use Rattle.frame_arena.specs.declared.FrameSpan.{FrameSpan}
 use Rattle.buffer_pools.specs.declared.label.Label.{Label}
 use Rattle.buffer_pools.specs.Views.{ListView, PoolView}
 use Rattle.stack_rules.specs.declared.Attached.{Attached}
-use Rattle.stack_rules.specs.Net.{Net, Modules, attached, handlers_of}
+use Rattle.stack_rules.specs.Net.{Net, attached, handlers_of}
 use Rattle.stack_rules.specs.Rewires.{is_in}
 use Rattle.stack_rules.specs.Targets.{has_receive}
 use Rattle.stack_rules.specs.Tests.{is_miniport}
@@ -20,10 +17,10 @@ use Rattle.hand_lemmas.specs.Frames.{AreSized}
 use Rattle.agenda_items.specs.declared.Carried.{Carried}
 use Rattle.driver_tray.specs.Tray.{TrayView, lent_out}
 use Rattle.book_lemmas.specs.Stands.{Stands, IsSeated, IsPoolOf}
-use Rattle.book_lemmas.specs.Views.{BookView, HeldView, no_filter, no_pool, filter_at, pool_at, seat_of}
+use Rattle.book_lemmas.specs.Views.{BookView, no_filter, pool_at, seat_of}
 use Rattle.binding_work.specs.Sends.{called_with}
-use Rattle.lend_work.specs.Climbs.{IsServed, MayClimb, HasRoomUp}
-use Rattle.lend_work.specs.Lends.{LendsFor, MayLend, MayCarry, HasRoom, pooled, bench_of}
+use Rattle.lend_work.specs.Climbs.{IsServed, HasRoomUp}
+use Rattle.lend_work.specs.Lends.{LendsFor, MayLend, MayCarry, pooled, bench_of}
 
 -- A filter that has the receive pair is attached, and its driver has a place.
 

@@ -1,20 +1,17 @@
 -- A lent list goes up through the filters: the rows are those of the rules.
-use Rattle.std.proofs.Common.{◌≡◌, ℕ, ◌+◌, ◌==◌, ◌≤◌, ◌<◌, true, List, [], ◌∷◌, ◌++◌, Option, Some, None, IsSome, length, slice_index_or, slice_set, refl, sym, ap, ◌∙◌, subst, arith, append_assoc, append-nil}
+use Rattle.std.proofs.Common.{◌≡◌, ℕ, ◌==◌, ◌≤◌, List, [], ◌∷◌, ◌++◌, Option, Some, None, slice_index_or, slice_set, refl, sym, ap, ◌∙◌, subst, arith, append_assoc, append-nil}
 use Rattle.ndis_base.specs.declared.Direction.TheVariants as direction
 use Rattle.ndis_base.specs.declared.ListStatus.{ListStatus}
 use Rattle.ndis_base.specs.declared.ModuleId.{ModuleId}
 use Rattle.ndis_base.specs.declared.ModuleId.TheVariants.{Filter}
-use Rattle.journal_types.specs.declared.Handler.TheVariants as handler
 use Rattle.journal_types.specs.declared.Row.{Row}
-use Rattle.journal_types.specs.declared.StackHead.{StackHead}
 use Rattle.buffer_pools.specs.Views.{ListView, PoolView, live_count}
 use Rattle.stack_rules.specs.declared.Attached.{Attached}
 use Rattle.stack_rules.specs.Net.{Net, Modules, attached}
 use Rattle.stack_rules.specs.Places.{is_full}
 use Rattle.stack_rules.specs.Receives.{lent_at, lent_up, lent_delivery}
-use Rattle.hand_lemmas.specs.Hands.{Hands}
 use Rattle.driver_views.specs.States.{FilterState}
-use Rattle.driver_tray.specs.Tray.{TrayView, given}
+use Rattle.driver_tray.specs.Tray.{TrayView}
 use Rattle.book_lemmas.specs.Called.{SitsAt, filter_called}
 use Rattle.book_lemmas.specs.Stands.{IsSeated}
 use Rattle.book_lemmas.specs.Views.{BookView, HeldView, no_pool, filter_at, pool_at, seat_of, held_pool, hands_of}
@@ -24,11 +21,11 @@ use Rattle.call_lemmas.proofs.Served.{did_filter}
 use Rattle.book_parts.specs.Events.{IsBook}
 use Rattle.binding_work.specs.Sends.{called_with}
 use Rattle.binding_work.proofs.Sending.{full_at}
-use Rattle.lend_work.specs.Visits.{Bench, VisitsAt, bench}
-use Rattle.lend_work.specs.Climbs.{Climbs, AtFilter}
+use Rattle.lend_work.specs.Visits.{Bench, VisitsAt}
+use Rattle.lend_work.specs.Climbs.{Climbs}
 use Rattle.lend_work.specs.Climbs.AtFilter.{ends, goes_on}
 use Rattle.lend_work.proofs.Placed.{still_at}
-use Rattle.lend_work.proofs.Meeting.{WentOn, went_on}
+use Rattle.lend_work.proofs.Meeting.{went_on}
 use Rattle.lend_work.proofs.Along.{Along, along_enters, along_further}
 use Rattle.lend_work.proofs.Given.{IsOn, IsAsked, HasMet, then_rows, met}
 use Rattle.lend_work.proofs.Readied.{IsReceiver}

@@ -16,7 +16,6 @@ use Rattle.driver_tray.specs.Tray.{TrayView, LendsOut, Spends}
 use Rattle.book_lemmas.specs.Views.{BookView, HeldView}
 use Rattle.binding_work.specs.Sends.{MayStart, called_with}
 use Rattle.delivery_work.specs.Desks.{Desk, CanTake, desk}
-use Rattle.delivery_work.specs.Works.{IsReadyForAll}
 use Rattle.lend_work.specs.Visits.{Bench, bench}
 use Rattle.lend_work.specs.Climbs.{Climbs, MayClimb, IsServed, receivers}
 use Rattle.lend_work.specs.Bindings.{Arrives}

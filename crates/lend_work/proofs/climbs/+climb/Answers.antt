@@ -1,4 +1,4 @@
-use Rattle.std.proofs.Common.{◌≡◌, ◌<◌, ◌≤◌, ◌-◌, ℕ, true, Some, map, length, slice_index, sym, ap, ◌∙◌, arith}
+use Rattle.std.proofs.Common.{◌≡◌, ◌≤◌, ◌-◌, ℕ, true, Some, map, slice_index, sym, ap, ◌∙◌, arith}
 use Rattle.std.proofs.lemmas.List.{length-map}
 use Rattle.stack_rules.specs.Net.{Modules}
 use Rattle.stack_rules.specs.Targets.{has_receive}
@@ -19,8 +19,7 @@ climb-requires-in-None g t c κs within =
     let seat : seat_of c.args.seats.now f ≡ Some c.in-Some.place = sym c.place_of.ensures ∙ c.in-Some.is in
     let p = is_placed c.in-Some.place (served_top f c.requires.may some is has) seat in
     let rooms = length-map c.args.filters.now.items g.F.FilterCalls.room in
-    let states = length-map c.args.filters.now.items g.F.FilterCalls.state in
-    (
+    let states = length-map c.args.filters.now.items g.F.FilterCalls.state in (
       omega (arith, some, c.decreases),
       (
         within,

@@ -1,9 +1,7 @@
-use Rattle.std.proofs.Common.{◌≡◌, None, map, length, sym, ap, ◌∙◌, refl, subst}
-use Rattle.buffer_pools.specs.Views.{ListView}
+use Rattle.std.proofs.Common.{None, map, length, ap, refl}
 use Rattle.book_lemmas.specs.Views.{BookView, HeldView}
 use Rattle.book_parts.specs.Parts.{view_of}
-use Rattle.lend_work.specs.Visits.{Bench, bench}
-use Rattle.lend_work.specs.Climbs.{Climbs, receivers}
+use Rattle.lend_work.specs.Visits.{bench}
 use Rattle.lend_work.specs.Lends.Carries.{arrives}
 use Rattle.lend_work.proofs.Carrying.{climbs_from, may_arrive}
 use Rattle.lend_work.proofs.lends.carry.Goals as goal

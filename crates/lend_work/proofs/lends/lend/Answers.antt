@@ -1,6 +1,5 @@
-use Rattle.std.proofs.Common.{◌≡◌, ℕ, length, map, sym, ◌∙◌, arith}
+use Rattle.std.proofs.Common.{arith}
 use Rattle.std.proofs.lemmas.List.{length-map}
-use Rattle.book_lemmas.specs.Views.{BookView}
 use Rattle.book_parts.specs.Parts.{view_of}
 use Rattle.lend_work.proofs.Lending.{may_lend, lends_event, stopped_event}
 use Rattle.lend_work.proofs.lends.lend.Goals as goal
