@@ -75,7 +75,7 @@ pub trait FilterDriver: Send + Drop {
         requires may { MayHandle called.ReceiveLent direction.Lent (state self.old) list.now tray.old }
         requires room { 1 ≤ room self.old }
         ensures lent { IsLentTo (state self.old) list.now tray.old result (state self.new) tray.new }
-        ensures room { room self.old ≤ room self.new };
+        ensures room { result ≡ LentFate.Left → room self.old ≤ room self.new };
 
     /// A receive on its way home (WDK, "FilterReturnNetBufferLists").
     fn returned(&mut self, list: BufferList, status: ListStatus, tray: &mut Tray)
@@ -166,7 +166,7 @@ pub trait FilterCalls: Drop {
         requires may { MayHandle called.ReceiveLent direction.Lent (state self.old) list.now tray.old }
         requires room { 1 ≤ room self.old }
         ensures lent { IsLentTo (state self.old) list.now tray.old result (state self.new) tray.new }
-        ensures room { room self.old ≤ room self.new };
+        ensures room { result ≡ LentFate.Left → room self.old ≤ room self.new };
 
     /// A receive on its way home (WDK, "FilterReturnNetBufferLists").
     fn returned(&mut self, list: BufferList, status: ListStatus, tray: &mut Tray)

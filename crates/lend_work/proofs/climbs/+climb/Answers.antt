@@ -25,7 +25,7 @@ climb-requires-in-None g t c κs within =
         within,
         (
           may_next f c.in-Some.place c.requires.may some p c.in-None.ensures.visits,
-          all_still _ _ c.in-Some.place _ c.requires.rooms c.lend_at.ensures.rooms (omega (arith, p.driver, rooms, states)) c.lend_at.ensures.room,
+          all_still _ _ c.in-Some.place _ c.requires.rooms c.lend_at.ensures.rooms (omega (arith, p.driver, rooms, states)) (c.lend_at.ensures.room c.in-None.is),
         ),
       ),
     )
