@@ -27,13 +27,6 @@ pub has_setup : (o : Option Setup) → IsSome o → HasSetup o
 has_setup None some = absurd (false≢true some)
 has_setup (Some p) some = record { setup = p; is = refl }
 
--- only a list that the filter leaves as it is goes further up
-pub left_on : (became : LentFate) → went_by became ≡ None → became ≡ fate.Left
-left_on fate.Left none = refl
-left_on fate.Dropped none = cc
-left_on fate.Lacking none = cc
-left_on fate.Copied none = cc
-
 rows_same : {t t' : TrayView} → t' ≡ t → t.room.rows ≤ t'.room.rows + 2
 rows_same {t} {t'} e = let rows = ap (λ (x : TrayView). x.room.rows) e in omega (arith, rows)
 
