@@ -3,6 +3,7 @@ ghost use Rattle.std.specs.Prelude.{◌≡◌, ℕ, ◌≤◌, [], None, Some, O
 ghost use Rattle.ndis_base.specs.declared.Direction.TheVariants as direction;
 ghost use Rattle.promise_rules.specs.declared.Called.TheVariants as called;
 ghost use Rattle.driver_views.specs.States.{FilterState};
+ghost use Rattle.driver_calls.specs.declared.fates.LentFate.TheVariants.{Left};
 ghost use Rattle.driver_calls.specs.declared.faults.AttachFault.TheVariants.{Refused, Memory};
 ghost use Rattle.driver_calls.specs.Filters.{MayHandle, IsHandled, MayComplete, IsCompleted, MayGiveAll, IsCancelled, IsDrained, MayAttach, Refuses, IsLentTo};
 
@@ -70,12 +71,13 @@ pub trait FilterDriver: Send + Drop {
         ensures { IsHandled called.Receive (state self.old) list tray.old (state self.new) tray.new };
 
     /// A receive that stays its lender's (WDK, "FilterReceiveNetBufferLists" with
-    /// NDIS_RECEIVE_FLAGS_RESOURCES): what it makes of the list, which is its lender's again afterwards.
+    /// NDIS_RECEIVE_FLAGS_RESOURCES): what it makes of the list, which is its lender's again afterwards. Where
+    /// it leaves the list as it is, it uses no room.
     fn receive_lent(&mut self, list: &BufferList, tray: &mut Tray) -> LentFate
         requires may { MayHandle called.ReceiveLent direction.Lent (state self.old) list.now tray.old }
         requires room { 1 ≤ room self.old }
         ensures lent { IsLentTo (state self.old) list.now tray.old result (state self.new) tray.new }
-        ensures room { room self.old ≤ room self.new };
+        ensures room { result ≡ Left → room self.old ≤ room self.new };
 
     /// A receive on its way home (WDK, "FilterReturnNetBufferLists").
     fn returned(&mut self, list: BufferList, status: ListStatus, tray: &mut Tray)
@@ -161,12 +163,13 @@ pub trait FilterCalls: Drop {
         ensures { IsHandled called.Receive (state self.old) list tray.old (state self.new) tray.new };
 
     /// A receive that stays its lender's (WDK, "FilterReceiveNetBufferLists" with
-    /// NDIS_RECEIVE_FLAGS_RESOURCES): what it makes of the list, which is its lender's again afterwards.
+    /// NDIS_RECEIVE_FLAGS_RESOURCES): what it makes of the list, which is its lender's again afterwards. Where
+    /// it leaves the list as it is, it uses no room.
     fn receive_lent(&mut self, list: &BufferList, tray: &mut Tray) -> LentFate
         requires may { MayHandle called.ReceiveLent direction.Lent (state self.old) list.now tray.old }
         requires room { 1 ≤ room self.old }
         ensures lent { IsLentTo (state self.old) list.now tray.old result (state self.new) tray.new }
-        ensures room { room self.old ≤ room self.new };
+        ensures room { result ≡ Left → room self.old ≤ room self.new };
 
     /// A receive on its way home (WDK, "FilterReturnNetBufferLists").
     fn returned(&mut self, list: BufferList, status: ListStatus, tray: &mut Tray)

@@ -1,5 +1,5 @@
 //! A list is lent to one filter.
-ghost use Rattle.std.specs.Prelude.{◌≡◌, ◌<◌, ◌≤◌, Some, length, map, slice_set, slice_index_or};
+ghost use Rattle.std.specs.Prelude.{◌≡◌, ◌<◌, ◌≤◌, None, Some, length, map, slice_set, slice_index_or};
 ghost use Rattle.ndis_base.specs.declared.ModuleId.TheVariants.{Filter};
 ghost use Rattle.book_lemmas.specs.Views.{filter_at, pool_at};
 ghost use Rattle.driver_calls.specs.declared.fates.LentFate.{LentFate};
@@ -52,7 +52,7 @@ fn lend_running<F: FilterCalls>(
     requires may { MayVisit (F.state filter.old) list.now tray.old tray.old.pool }
     requires room { 1 ≤ F.room filter.old }
     ensures takes { Takes (F.state filter.old) list.now tray.old result (F.state filter.new) tray.new }
-    ensures room { F.room filter.old ≤ F.room filter.new }
+    ensures room { result ≡ None → F.room filter.old ≤ F.room filter.new }
 {
     tray.give(list.number(), Handler::ReceiveLent);
     let became = filter.receive_lent(list, tray);
@@ -70,7 +70,7 @@ fn lend_called<F: FilterCalls>(
     requires may { MayVisit (F.state filter.old) list.now tray.old tray.old.pool }
     requires room { 1 ≤ F.room filter.old }
     ensures meets { Meets (F.state filter.old) list.now tray.old result (F.state filter.new) tray.new }
-    ensures room { F.room filter.old ≤ F.room filter.new }
+    ensures room { result ≡ None → F.room filter.old ≤ F.room filter.new }
 {
     match tray.state_of(ModuleId::Filter(f)) {
         ModuleState::Running => lend_running(filter, tray, list),
@@ -90,7 +90,7 @@ fn lend_to<F: FilterCalls>(
     requires may { MayVisit (F.state filter.old) list.now tray.old pool.old }
     requires room { 1 ≤ F.room filter.old }
     ensures visits { Visits f list.now (F.state filter.old) tray.old pool.old result (F.state filter.new) tray.new pool.new }
-    ensures room { F.room filter.old ≤ F.room filter.new }
+    ensures room { result ≡ None → F.room filter.old ≤ F.room filter.new }
 {
     tray.set_caller(ModuleId::Filter(f));
     tray.exchange_pool(pool);
@@ -114,7 +114,7 @@ pub(crate) fn lend_at<F: FilterCalls>(
     requires room { 1 ≤ slice_index_or (map F.room filters.old.items) place 0 }
     ensures visits { VisitsAt f place list.now (bench (map F.state filters.old.items) pools.old.items tray.old) result (bench (map F.state filters.new.items) pools.new.items tray.new) }
     ensures rooms { map F.room filters.new.items ≡ slice_set (map F.room filters.old.items) place (slice_index_or (map F.room filters.new.items) place 0) }
-    ensures room { 1 ≤ slice_index_or (map F.room filters.new.items) place 0 }
+    ensures room { result ≡ None → 1 ≤ slice_index_or (map F.room filters.new.items) place 0 }
 {
     lend_to(&mut filters[place], tray, &mut pools[place], f, list)
 }

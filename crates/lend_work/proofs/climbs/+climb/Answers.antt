@@ -1,4 +1,4 @@
-use Rattle.std.proofs.Common.{◌≡◌, ◌≤◌, ◌-◌, ℕ, true, Some, map, slice_index, sym, ap, ◌∙◌, arith}
+use Rattle.std.proofs.Common.{◌≡◌, ◌≤◌, ◌-◌, ℕ, true, Some, map, slice_index, sym, ap, ◌∙◌, refl, arith}
 use Rattle.std.proofs.lemmas.List.{length-map}
 use Rattle.stack_rules.specs.Net.{Modules}
 use Rattle.stack_rules.specs.Targets.{has_receive}
@@ -25,7 +25,7 @@ climb-requires-in-None g t c κs within =
         within,
         (
           may_next f c.in-Some.place c.requires.may some p c.in-None.ensures.visits,
-          all_still _ _ c.in-Some.place _ c.requires.rooms c.lend_at.ensures.rooms (omega (arith, p.driver, rooms, states)) c.lend_at.ensures.room,
+          all_still _ _ c.in-Some.place _ c.requires.rooms c.lend_at.ensures.rooms (omega (arith, p.driver, rooms, states)) (c.in-None.ensures.room refl),
         ),
       ),
     )

@@ -19,6 +19,6 @@ pub returns-clause-rooms : goal.returns-clause-rooms
 returns-clause-rooms g c = set_at g.F.FilterCalls.room c.args.filters.now.items c.args.place 0 c.lend_to.new.filter c.requires.filters
 
 pub returns-clause-room : goal.returns-clause-room
-returns-clause-room g c =
+returns-clause-room g c = λ none.
     room_left g.F.FilterCalls.room c.args.filters.now.items c.args.place c.index_mut.result.now c.lend_to.new.filter c.requires.filters
-    (room_at g.F.FilterCalls.room c.args.filters.now.items c.args.place c.index_mut.result.now c.requires.filters c.index_mut.ensures.value c.requires.room) c.lend_to.ensures.room
+    (room_at g.F.FilterCalls.room c.args.filters.now.items c.args.place c.index_mut.result.now c.requires.filters c.index_mut.ensures.value c.requires.room) (c.lend_to.ensures.room none)
