@@ -5,7 +5,7 @@ use Rattle.stack_rules.specs.Handled.{program}
 use Rattle.driver_calls.specs.Filters.{made_by}
 use Rattle.frame_programs.specs.Judged.{IsMadeOf}
 use Rattle.rule_filters.specs.Changes.{PassesCopy}
-use Rattle.rule_filters.proofs.Ways.{leaves_same, copies_changed}
+use Rattle.rule_filters.proofs.Lent.{leaves_same, copies_changed}
 use Rattle.rule_filters.proofs.handling.handle_lent.Goals as goal
 
 pub returns-in-Same-clause-lent : goal.returns-in-Same-clause-lent
