@@ -1,0 +1,224 @@
+//! Calls, and their frames.
+ghost use Rattle.std.specs.Prelude.{◌≡◌, ◌<◌, ◌≤◌, [], ℕ, List, Ok, codes, length, IfOk};
+ghost use Rattle.json_forms.specs.Lists.{read_all};
+ghost use Rattle.json_tokens.specs.Tokens.{IsValueAt, AreMembersAt};
+ghost use Rattle.serde_json.specs.Data.{Data, Members, array, number as number_data, object, string, unsigned};
+ghost use Rattle.serde_json.specs.View.{items_of, members_view};
+ghost use Rattle.script_forms.specs.Call.{call_in};
+ghost use Rattle.script_forms.specs.Script.{call_after};
+ghost use Rattle.script_forms.specs.Stack.{bindings_at};
+ghost use Rattle.script_forms.specs.Values.{frame_in, frames_in, place_in};
+ghost use Rattle.script_tokens.specs.Usual.{named_members, placed_members, send_members};
+
+use journal_types::Frames;
+use json::Reader;
+use json_tokens::parts::{
+    Unread, begin_array, begin_object, end_object, name, number_at, text, text_at,
+};
+use json_tokens::tree::read_members;
+use ndis_base::{Frame, LaneNo};
+use script_calls::calls::call_of;
+use script_types::{Call, CallKind, Calls, StackSetup};
+use serde_json::{Map, Value, put};
+use std::alloc::Global;
+
+fn frame_of_text(alloc: Global, digits: &str) -> Result<Frame, Unread>
+    ensures { IfOk result (λ f. frame_in (string digits.now) ≡ Ok f) }
+{
+    match hex::decode(alloc, digits) {
+        Ok(bytes) => {
+            if 14 <= bytes.len() && bytes.len() <= 1518 {
+                Ok(Frame::of(bytes))
+            } else {
+                Err(Unread)
+            }
+        }
+        Err(_) => Err(Unread),
+    }
+}
+
+fn frame(alloc: Global, reader: &mut Reader<'_>) -> Result<Frame, Unread>
+    ensures { IfOk result (λ f. (d : Data) × ((depth : ℕ) → IsValueAt depth reader.old d reader.new) × (frame_in d ≡ Ok f)) }
+{
+    let digits = text(reader)?;
+    frame_of_text(alloc, digits)
+}
+
+fn each_frame(alloc: Global, reader: &mut Reader<'_>) -> Result<Vec<Frame>, Unread>
+    ensures { IfOk result (λ fs. (ds : List Data) × IsValueAt 124 reader.old (array (items_of ds)) reader.new × (length ds ≡ length fs.items) × (read_all (λ before. frame_in) [] ds ≡ Ok fs.items)) }
+{
+    begin_array(reader)?;
+    let mut frames = Vec::new(alloc);
+    'frames: while !reader.take_end_array() {
+        let next = frame(alloc, reader)?;
+        frames.push(next)?;
+    }
+    Ok(frames)
+}
+
+fn frames(alloc: Global, reader: &mut Reader<'_>) -> Result<Frames, Unread>
+    ensures { IfOk result (λ fs. (d : Data) × IsValueAt 124 reader.old d reader.new × (frames_in d ≡ Ok fs)) }
+{
+    let frames = each_frame(alloc, reader)?;
+    if 1 <= frames.len() && frames.len() <= 8 {
+        Ok(Frames::of(frames))
+    } else {
+        Err(Unread)
+    }
+}
+
+fn check_place(place: u64, high: u64, count: usize) -> Result<(), Unread>
+    ensures { IfOk result (λ _. (place ≤ high) × (place < count) × (place_in high count (number_data (unsigned place)) ≡ Ok place)) }
+{
+    if place <= high && place < count as u64 {
+        Ok(())
+    } else {
+        Err(Unread)
+    }
+}
+
+fn sent(
+    lanes: u8,
+    stacks: &[StackSetup],
+    lane: u64,
+    stack: u64,
+    binding: u64,
+    frames: Frames,
+) -> Result<Call, Unread>
+    ensures { IfOk result (λ call. (d : Data) → frames_in d ≡ Ok frames → call_in lanes stacks.now (object (send_members lane stack binding d)) ≡ Ok call) }
+{
+    check_place(lane, 7, lanes as usize)?;
+    check_place(stack, 3, stacks.len())?;
+    check_place(binding, 7, stacks[stack as usize].bindings.items().len())?;
+    Ok(Call {
+        lane: LaneNo(lane as u8),
+        stack: stack as u8,
+        pump: true,
+        kind: CallKind::Send {
+            binding: binding as u32,
+            cancel: None,
+            frames,
+        },
+    })
+}
+
+fn transmitted(lanes: u8, stacks: &[StackSetup], lane: u64, stack: u64) -> Result<Call, Unread>
+    ensures { IfOk result (λ call. call_in lanes stacks.now (object (placed_members lane (codes "transmit") stack)) ≡ Ok call) }
+{
+    check_place(lane, 7, lanes as usize)?;
+    check_place(stack, 3, stacks.len())?;
+    Ok(Call {
+        lane: LaneNo(lane as u8),
+        stack: stack as u8,
+        pump: true,
+        kind: CallKind::Transmit,
+    })
+}
+
+fn send(
+    alloc: Global,
+    lanes: u8,
+    stacks: &[StackSetup],
+    lane: u64,
+    reader: &mut Reader<'_>,
+) -> Result<Call, Unread>
+    ensures { IfOk result (λ call. (ms : Members) × AreMembersAt 124 (named_members lane (codes "send")) reader.old ms reader.new × (call_in lanes stacks.now (object ms) ≡ Ok call)) }
+{
+    let stack = number_at(reader, "stack")?;
+    let binding = number_at(reader, "binding")?;
+    name(reader, "frames")?;
+    let frames = frames(alloc, reader)?;
+    end_object(reader)?;
+    sent(lanes, stacks, lane, stack, binding, frames)
+}
+
+fn transmit(
+    lanes: u8,
+    stacks: &[StackSetup],
+    lane: u64,
+    reader: &mut Reader<'_>,
+) -> Result<Call, Unread>
+    ensures { IfOk result (λ call. (ms : Members) × AreMembersAt 124 (named_members lane (codes "transmit")) reader.old ms reader.new × (call_in lanes stacks.now (object ms) ≡ Ok call)) }
+{
+    let stack = number_at(reader, "stack")?;
+    end_object(reader)?;
+    transmitted(lanes, stacks, lane, stack)
+}
+
+fn named(alloc: Global, lane: u64, word: &str) -> Result<Map<String, Value>, Unread>
+    ensures { IfOk result (λ m. members_view m.entries ≡ named_members lane word.now) }
+{
+    let mut members = Map::new(alloc);
+    put(&mut members, alloc, "lane", Value::from(lane))?;
+    put(&mut members, alloc, "call", Value::try_from_str(alloc, word)?)?;
+    Ok(members)
+}
+
+// The members of any call, as a tree.
+fn other(
+    alloc: Global,
+    lanes: u8,
+    stacks: &[StackSetup],
+    lane: u64,
+    word: &str,
+    reader: &mut Reader<'_>,
+) -> Result<Call, Unread>
+    ensures { IfOk result (λ call. (ms : Members) × AreMembersAt 124 (named_members lane word.now) reader.old ms reader.new × (call_in lanes stacks.now (object ms) ≡ Ok call)) }
+{
+    let found = named(alloc, lane, word)?;
+    let value = Value::from(read_members(alloc, reader, 124, found)?);
+    match call_of(alloc, lanes, stacks, &value) {
+        Ok(call) => Ok(call),
+        Err(_) => Err(Unread),
+    }
+}
+
+fn call_of_word(
+    alloc: Global,
+    lanes: u8,
+    stacks: &[StackSetup],
+    lane: u64,
+    word: &str,
+    reader: &mut Reader<'_>,
+) -> Result<Call, Unread>
+    ensures { IfOk result (λ call. (ms : Members) × AreMembersAt 124 (named_members lane word.now) reader.old ms reader.new × (call_in lanes stacks.now (object ms) ≡ Ok call)) }
+{
+    match word {
+        "send" => send(alloc, lanes, stacks, lane, reader),
+        "transmit" => transmit(lanes, stacks, lane, reader),
+        _ => other(alloc, lanes, stacks, lane, word, reader),
+    }
+}
+
+fn call(
+    alloc: Global,
+    lanes: u8,
+    stacks: &[StackSetup],
+    reader: &mut Reader<'_>,
+) -> Result<Call, Unread>
+    ensures { IfOk result (λ call. (d : Data) × IsValueAt 125 reader.old d reader.new × (call_in lanes stacks.now d ≡ Ok call)) }
+{
+    begin_object(reader)?;
+    let lane = number_at(reader, "lane")?;
+    let word = text_at(reader, "call")?;
+    call_of_word(alloc, lanes, stacks, lane, word, reader)
+}
+
+/// The calls of a script of so many lanes and of these stacks, one at a time. Each begins with its
+/// lane and its name.
+pub fn each_call(
+    alloc: Global,
+    lanes: u8,
+    stacks: &[StackSetup],
+    reader: &mut Reader<'_>,
+) -> Result<Calls, Unread>
+    ensures { IfOk result (λ calls. (ds : List Data) × IsValueAt 126 reader.old (array (items_of ds)) reader.new × (length ds ≡ length calls) × (read_all (call_after lanes stacks.now) [] ds ≡ Ok calls)) }
+{
+    begin_array(reader)?;
+    let mut calls = Vec::new(alloc);
+    'calls: while !reader.take_end_array() {
+        let next = call(alloc, lanes, stacks, reader)?;
+        calls.push(next)?;
+    }
+    Ok(Calls::of(calls))
+}
