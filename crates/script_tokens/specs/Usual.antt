@@ -1,6 +1,11 @@
 -- The members of a call of the usual form, which come in this order.
-use Rattle.std.specs.Prelude.{ℕ, List, codes}
-use Rattle.serde_json.specs.Data.{Data, unsigned, number, string, Members, no_members, put}
+use Rattle.std.specs.Prelude.{◌≡◌, ℕ, List, codes, Ok}
+use Rattle.json.specs.Token.{Token}
+use Rattle.serde_json.specs.Data.{Data, unsigned, number, string, object, Members, no_members, put}
+use Rattle.json_tokens.specs.Tokens.{AreMembersAt}
+use Rattle.script_types.specs.declared.Call.{Call}
+use Rattle.script_types.specs.declared.StackSetup.{StackSetup}
+use Rattle.script_forms.specs.Call.{call_in}
 
 -- its lane, and its name
 abbrev pub named_members : ℕ → List ℕ → Members
@@ -14,3 +19,8 @@ placed_members lane word stack = put (codes "stack") (number (unsigned stack)) (
 abbrev pub send_members : ℕ → ℕ → ℕ → Data → Members
 send_members lane stack binding frames =
     put (codes "frames") frames (put (codes "binding") (number (unsigned binding)) (placed_members lane (codes "send") stack))
+
+-- the members that stand first, up to the object's end, make the members before them this call
+abbrev pub EndsCall : ℕ → List StackSetup → Members → List Token → List Token → Call → Type 0
+EndsCall lanes stacks before ts rest call =
+    (ms : Members) × AreMembersAt 124 before ts ms rest × (call_in lanes stacks (object ms) ≡ Ok call)

@@ -1,15 +1,16 @@
 //! Calls, and their frames.
 ghost use Rattle.std.specs.Prelude.{◌≡◌, ◌<◌, ◌≤◌, [], ℕ, List, Ok, codes, length, IfOk};
 ghost use Rattle.json_forms.specs.Lists.{read_all};
-ghost use Rattle.json_tokens.specs.Tokens.{IsValueAt, AreMembersAt};
-ghost use Rattle.serde_json.specs.Data.{Data, Members, array, number as number_data, object, string, unsigned};
+ghost use Rattle.json_tokens.specs.Tokens.{IsValueAt};
+ghost use Rattle.serde_json.specs.Data.{Data, array, number as number_data, object, string, unsigned};
 ghost use Rattle.serde_json.specs.View.{items_of, members_view};
 ghost use Rattle.script_forms.specs.Call.{call_in};
 ghost use Rattle.script_forms.specs.Script.{call_after};
 ghost use Rattle.script_forms.specs.Stack.{bindings_at};
 ghost use Rattle.script_forms.specs.Values.{frame_in, frames_in, place_in};
-ghost use Rattle.script_tokens.specs.Usual.{named_members, placed_members, send_members};
+ghost use Rattle.script_tokens.specs.Usual.{EndsCall, named_members, placed_members, send_members};
 
+use crate::digits::decode;
 use journal_types::Frames;
 use json::Reader;
 use json_tokens::parts::{
@@ -25,7 +26,7 @@ use std::alloc::Global;
 fn frame_of_text(alloc: Global, digits: &str) -> Result<Frame, Unread>
     ensures { IfOk result (λ f. frame_in (string digits.now) ≡ Ok f) }
 {
-    match hex::decode(alloc, digits) {
+    match decode(alloc, digits) {
         Ok(bytes) => {
             if 14 <= bytes.len() && bytes.len() <= 1518 {
                 Ok(Frame::of(bytes))
@@ -77,6 +78,13 @@ fn check_place(place: u64, high: u64, count: usize) -> Result<(), Unread>
     }
 }
 
+fn count_of_bindings(stacks: &[StackSetup], place: u64) -> usize
+    requires { place < length stacks.now }
+    ensures { result ≡ length (bindings_at stacks.now place) }
+{
+    stacks[place as usize].bindings.items().len()
+}
+
 fn sent(
     lanes: u8,
     stacks: &[StackSetup],
@@ -89,7 +97,7 @@ fn sent(
 {
     check_place(lane, 7, lanes as usize)?;
     check_place(stack, 3, stacks.len())?;
-    check_place(binding, 7, stacks[stack as usize].bindings.items().len())?;
+    check_place(binding, 7, count_of_bindings(stacks, stack))?;
     Ok(Call {
         lane: LaneNo(lane as u8),
         stack: stack as u8,
@@ -122,7 +130,7 @@ fn send(
     lane: u64,
     reader: &mut Reader<'_>,
 ) -> Result<Call, Unread>
-    ensures { IfOk result (λ call. (ms : Members) × AreMembersAt 124 (named_members lane (codes "send")) reader.old ms reader.new × (call_in lanes stacks.now (object ms) ≡ Ok call)) }
+    ensures { IfOk result (λ call. EndsCall lanes stacks.now (named_members lane (codes "send")) reader.old reader.new call) }
 {
     let stack = number_at(reader, "stack")?;
     let binding = number_at(reader, "binding")?;
@@ -138,7 +146,7 @@ fn transmit(
     lane: u64,
     reader: &mut Reader<'_>,
 ) -> Result<Call, Unread>
-    ensures { IfOk result (λ call. (ms : Members) × AreMembersAt 124 (named_members lane (codes "transmit")) reader.old ms reader.new × (call_in lanes stacks.now (object ms) ≡ Ok call)) }
+    ensures { IfOk result (λ call. EndsCall lanes stacks.now (named_members lane (codes "transmit")) reader.old reader.new call) }
 {
     let stack = number_at(reader, "stack")?;
     end_object(reader)?;
@@ -163,7 +171,7 @@ fn other(
     word: &str,
     reader: &mut Reader<'_>,
 ) -> Result<Call, Unread>
-    ensures { IfOk result (λ call. (ms : Members) × AreMembersAt 124 (named_members lane word.now) reader.old ms reader.new × (call_in lanes stacks.now (object ms) ≡ Ok call)) }
+    ensures { IfOk result (λ call. EndsCall lanes stacks.now (named_members lane word.now) reader.old reader.new call) }
 {
     let found = named(alloc, lane, word)?;
     let value = Value::from(read_members(alloc, reader, 124, found)?);
@@ -181,7 +189,7 @@ fn call_of_word(
     word: &str,
     reader: &mut Reader<'_>,
 ) -> Result<Call, Unread>
-    ensures { IfOk result (λ call. (ms : Members) × AreMembersAt 124 (named_members lane word.now) reader.old ms reader.new × (call_in lanes stacks.now (object ms) ≡ Ok call)) }
+    ensures { IfOk result (λ call. EndsCall lanes stacks.now (named_members lane word.now) reader.old reader.new call) }
 {
     match word {
         "send" => send(alloc, lanes, stacks, lane, reader),
