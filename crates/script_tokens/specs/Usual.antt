@@ -1,15 +1,20 @@
 -- The members of a call of the usual form, which come in this order.
-use Rattle.std.specs.Prelude.{◌≡◌, ℕ, List, codes, Ok}
+use Rattle.std.specs.Prelude.{◌≡◌, ℕ, List, codes, Some, Ok}
 use Rattle.json.specs.Token.{Token}
+use Rattle.json.specs.Json.{read_key}
 use Rattle.serde_json.specs.Data.{Data, unsigned, number, string, object, Members, no_members, put}
 use Rattle.json_tokens.specs.Tokens.{AreMembersAt}
 use Rattle.script_types.specs.declared.Call.{Call}
 use Rattle.script_types.specs.declared.StackSetup.{StackSetup}
 use Rattle.script_forms.specs.Call.{call_in}
 
--- its lane, and its name
+-- its lane
+abbrev pub laned_members : ℕ → Members
+laned_members lane = put (codes "lane") (number (unsigned lane)) no_members
+
+-- its name too
 abbrev pub named_members : ℕ → List ℕ → Members
-named_members lane word = put (codes "call") (string word) (put (codes "lane") (number (unsigned lane)) no_members)
+named_members lane word = put (codes "call") (string word) (laned_members lane)
 
 -- its stack too
 abbrev pub placed_members : ℕ → List ℕ → ℕ → Members
@@ -24,3 +29,8 @@ send_members lane stack binding frames =
 abbrev pub EndsCall : ℕ → List StackSetup → Members → List Token → List Token → Call → Type 0
 EndsCall lanes stacks before ts rest call =
     (ms : Members) × AreMembersAt 124 before ts ms rest × (call_in lanes stacks (object ms) ≡ Ok call)
+
+-- the same of members of which the first one's name was passed
+abbrev pub EndsCallBehind : ℕ → List StackSetup → Members → List ℕ → List Token → List Token → Call → Type 0
+EndsCallBehind lanes stacks before name ts rest call =
+    (from : List Token) → read_key from ≡ Some (Some name, ts) → EndsCall lanes stacks before from rest call

@@ -8,15 +8,15 @@ ghost use Rattle.script_forms.specs.Call.{call_in};
 ghost use Rattle.script_forms.specs.Script.{call_after};
 ghost use Rattle.script_forms.specs.Stack.{bindings_at};
 ghost use Rattle.script_forms.specs.Values.{frame_in, frames_in, place_in};
-ghost use Rattle.script_tokens.specs.Usual.{EndsCall, named_members, placed_members, send_members};
+ghost use Rattle.script_tokens.specs.Usual.{EndsCall, EndsCallBehind, laned_members, named_members, placed_members, send_members};
 
 use crate::digits::decode;
 use journal_types::Frames;
 use json::Reader;
 use json_tokens::parts::{
-    Unread, begin_array, begin_object, end_object, name, number_at, text, text_at,
+    Unread, begin_array, begin_object, end_object, name, number, number_at, text,
 };
-use json_tokens::tree::read_members;
+use json_tokens::tree::{read_members, read_value};
 use ndis_base::{Frame, LaneNo};
 use script_calls::calls::call_of;
 use script_types::{Call, CallKind, Calls, StackSetup};
@@ -123,6 +123,102 @@ fn transmitted(lanes: u8, stacks: &[StackSetup], lane: u64, stack: u64) -> Resul
     })
 }
 
+fn laned(alloc: Global, lane: u64) -> Result<Map<String, Value>, Unread>
+    ensures { IfOk result (λ m. members_view m.entries ≡ laned_members lane) }
+{
+    let mut members = Map::new(alloc);
+    put(&mut members, alloc, "lane", Value::from(lane))?;
+    Ok(members)
+}
+
+fn named(alloc: Global, lane: u64, word: &str) -> Result<Map<String, Value>, Unread>
+    ensures { IfOk result (λ m. members_view m.entries ≡ named_members lane word.now) }
+{
+    let mut members = laned(alloc, lane)?;
+    put(&mut members, alloc, "call", Value::try_from_str(alloc, word)?)?;
+    Ok(members)
+}
+
+fn placed(alloc: Global, lane: u64, word: &str, stack: u64) -> Result<Map<String, Value>, Unread>
+    ensures { IfOk result (λ m. members_view m.entries ≡ placed_members lane word.now stack) }
+{
+    let mut members = named(alloc, lane, word)?;
+    put(&mut members, alloc, "stack", Value::from(stack))?;
+    Ok(members)
+}
+
+// The members of any call, as a tree, beside those found before.
+fn by_tree(
+    alloc: Global,
+    lanes: u8,
+    stacks: &[StackSetup],
+    found: Map<String, Value>,
+    reader: &mut Reader<'_>,
+) -> Result<Call, Unread>
+    ensures { IfOk result (λ call. EndsCall lanes stacks.now (members_view found.entries) reader.old reader.new call) }
+{
+    let value = Value::from(read_members(alloc, reader, 124, found)?);
+    match call_of(alloc, lanes, stacks, &value) {
+        Ok(call) => Ok(call),
+        Err(_) => Err(Unread),
+    }
+}
+
+// The same behind the name of a member.
+fn by_tree_from(
+    alloc: Global,
+    lanes: u8,
+    stacks: &[StackSetup],
+    found: Map<String, Value>,
+    key: &str,
+    reader: &mut Reader<'_>,
+) -> Result<Call, Unread>
+    ensures { IfOk result (λ call. EndsCallBehind lanes stacks.now (members_view found.entries) key.now reader.old reader.new call) }
+{
+    let value = read_value(alloc, reader, 124)?;
+    let mut more = found;
+    put(&mut more, alloc, key, value)?;
+    by_tree(alloc, lanes, stacks, more, reader)
+}
+
+// A send behind the name of its binding, which its frames follow as the last member.
+fn bound_send(
+    alloc: Global,
+    lanes: u8,
+    stacks: &[StackSetup],
+    lane: u64,
+    stack: u64,
+    reader: &mut Reader<'_>,
+) -> Result<Call, Unread>
+    ensures { IfOk result (λ call. EndsCallBehind lanes stacks.now (placed_members lane (codes "send") stack) (codes "binding") reader.old reader.new call) }
+{
+    let binding = number(reader)?;
+    name(reader, "frames")?;
+    let frames = frames(alloc, reader)?;
+    end_object(reader)?;
+    sent(lanes, stacks, lane, stack, binding, frames)
+}
+
+fn send_behind(
+    alloc: Global,
+    lanes: u8,
+    stacks: &[StackSetup],
+    lane: u64,
+    stack: u64,
+    key: &str,
+    reader: &mut Reader<'_>,
+) -> Result<Call, Unread>
+    ensures { IfOk result (λ call. EndsCallBehind lanes stacks.now (placed_members lane (codes "send") stack) key.now reader.old reader.new call) }
+{
+    match key {
+        "binding" => bound_send(alloc, lanes, stacks, lane, stack, reader),
+        _ => {
+            let found = placed(alloc, lane, "send", stack)?;
+            by_tree_from(alloc, lanes, stacks, found, key, reader)
+        }
+    }
+}
+
 fn send(
     alloc: Global,
     lanes: u8,
@@ -133,14 +229,29 @@ fn send(
     ensures { IfOk result (λ call. EndsCall lanes stacks.now (named_members lane (codes "send")) reader.old reader.new call) }
 {
     let stack = number_at(reader, "stack")?;
-    let binding = number_at(reader, "binding")?;
-    name(reader, "frames")?;
-    let frames = frames(alloc, reader)?;
-    end_object(reader)?;
-    sent(lanes, stacks, lane, stack, binding, frames)
+    match reader.next_key()? {
+        Some(key) => send_behind(alloc, lanes, stacks, lane, stack, key, reader),
+        None => Err(Unread),
+    }
+}
+
+fn transmit_behind(
+    alloc: Global,
+    lanes: u8,
+    stacks: &[StackSetup],
+    lane: u64,
+    stack: u64,
+    key: &str,
+    reader: &mut Reader<'_>,
+) -> Result<Call, Unread>
+    ensures { IfOk result (λ call. EndsCallBehind lanes stacks.now (placed_members lane (codes "transmit") stack) key.now reader.old reader.new call) }
+{
+    let found = placed(alloc, lane, "transmit", stack)?;
+    by_tree_from(alloc, lanes, stacks, found, key, reader)
 }
 
 fn transmit(
+    alloc: Global,
     lanes: u8,
     stacks: &[StackSetup],
     lane: u64,
@@ -149,20 +260,12 @@ fn transmit(
     ensures { IfOk result (λ call. EndsCall lanes stacks.now (named_members lane (codes "transmit")) reader.old reader.new call) }
 {
     let stack = number_at(reader, "stack")?;
-    end_object(reader)?;
-    transmitted(lanes, stacks, lane, stack)
+    match reader.next_key()? {
+        None => transmitted(lanes, stacks, lane, stack),
+        Some(key) => transmit_behind(alloc, lanes, stacks, lane, stack, key, reader),
+    }
 }
 
-fn named(alloc: Global, lane: u64, word: &str) -> Result<Map<String, Value>, Unread>
-    ensures { IfOk result (λ m. members_view m.entries ≡ named_members lane word.now) }
-{
-    let mut members = Map::new(alloc);
-    put(&mut members, alloc, "lane", Value::from(lane))?;
-    put(&mut members, alloc, "call", Value::try_from_str(alloc, word)?)?;
-    Ok(members)
-}
-
-// The members of any call, as a tree.
 fn other(
     alloc: Global,
     lanes: u8,
@@ -174,11 +277,7 @@ fn other(
     ensures { IfOk result (λ call. EndsCall lanes stacks.now (named_members lane word.now) reader.old reader.new call) }
 {
     let found = named(alloc, lane, word)?;
-    let value = Value::from(read_members(alloc, reader, 124, found)?);
-    match call_of(alloc, lanes, stacks, &value) {
-        Ok(call) => Ok(call),
-        Err(_) => Err(Unread),
-    }
+    by_tree(alloc, lanes, stacks, found, reader)
 }
 
 fn call_of_word(
@@ -193,8 +292,31 @@ fn call_of_word(
 {
     match word {
         "send" => send(alloc, lanes, stacks, lane, reader),
-        "transmit" => transmit(lanes, stacks, lane, reader),
+        "transmit" => transmit(alloc, lanes, stacks, lane, reader),
         _ => other(alloc, lanes, stacks, lane, word, reader),
+    }
+}
+
+// A call behind its lane and the name of its next member.
+fn call_behind(
+    alloc: Global,
+    lanes: u8,
+    stacks: &[StackSetup],
+    lane: u64,
+    key: &str,
+    reader: &mut Reader<'_>,
+) -> Result<Call, Unread>
+    ensures { IfOk result (λ call. EndsCallBehind lanes stacks.now (laned_members lane) key.now reader.old reader.new call) }
+{
+    match key {
+        "call" => {
+            let word = text(reader)?;
+            call_of_word(alloc, lanes, stacks, lane, word, reader)
+        }
+        _ => {
+            let found = laned(alloc, lane)?;
+            by_tree_from(alloc, lanes, stacks, found, key, reader)
+        }
     }
 }
 
@@ -208,12 +330,15 @@ fn call(
 {
     begin_object(reader)?;
     let lane = number_at(reader, "lane")?;
-    let word = text_at(reader, "call")?;
-    call_of_word(alloc, lanes, stacks, lane, word, reader)
+    match reader.next_key()? {
+        Some(key) => call_behind(alloc, lanes, stacks, lane, key, reader),
+        None => Err(Unread),
+    }
 }
 
 /// The calls of a script of so many lanes and of these stacks, one at a time. Each begins with its
-/// lane and its name.
+/// lane. No tree is made of a transmit, nor of a send whose other members are its binding and frames,
+/// in this order.
 pub fn each_call(
     alloc: Global,
     lanes: u8,

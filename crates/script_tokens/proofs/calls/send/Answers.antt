@@ -1,19 +1,18 @@
-use Rattle.std.proofs.Common.{◌≡◌, Ok, codes}
+use Rattle.std.proofs.Common.{◌≡◌, Some, codes, arith}
 use Rattle.std.proofs.lemmas.Result.{IfOk-weaker}
-use Rattle.serde_json.specs.Data.{Data, object}
-use Rattle.script_forms.specs.Call.{call_in}
-use Rattle.script_forms.specs.Values.{frames_in}
-use Rattle.script_tokens.specs.Usual.{EndsCall, named_members, send_members}
-use Rattle.script_tokens.proofs.Ends.{send-ends}
+use Rattle.json.specs.Json.{read_key}
+use Rattle.serde_json.specs.Data.{number, unsigned}
+use Rattle.script_tokens.specs.Usual.{EndsCall, EndsCallBehind, named_members, placed_members}
+use Rattle.script_tokens.proofs.Ends.{member-ends}
 use Rattle.script_tokens.proofs.calls.send.Goals as goal
 
-pub returns : goal.returns
-returns c =
+pub returns-in-Some : goal.returns-in-Some
+returns-in-Some c =
     let lanes = c.args.lanes in
     let stacks = c.args.stacks.now in
     let lane = c.args.lane in
     let stack = c.in_ok-stack.stack in
-    let binding = c.in_ok-binding.binding in
-    let frames = c.in_ok-frames.ensures in
-    IfOk-weaker c.sent.result (λ call. (d : Data) → frames_in d ≡ Ok c.in_ok-frames.frames → call_in lanes stacks (object (send_members lane stack binding d)) ≡ Ok call) (λ call. EndsCall lanes stacks (named_members lane (codes "send")) c.args.reader.now c.end_object.new.reader call)
-    (λ call is. send-ends lanes stacks call lane stack binding frames.0 _ _ _ _ _ _ (c.in_ok-stack.ensures 124) (c.in_ok-binding.ensures 124) c.in_ok-name.ensures frames.1 c.in_ok-end_object.ensures (is frames.0 frames.2)) c.sent.ensures
+    let word = codes "send" in
+    let named : read_key c.number_at.new.reader ≡ Some (Some c.in-Some.key.now, c.next_key.new.self) = grind arith in
+    IfOk-weaker c.send_behind.result (λ call. EndsCallBehind lanes stacks (placed_members lane word stack) c.in-Some.key.now c.next_key.new.self c.send_behind.new.reader call) (λ call. EndsCall lanes stacks (named_members lane word) c.args.reader.now c.send_behind.new.reader call)
+    (λ call behind. member-ends lanes stacks call (named_members lane word) (codes "stack") (number (unsigned stack)) _ _ _ (c.in_ok-stack.ensures 124) (behind c.number_at.new.reader named)) c.send_behind.ensures
