@@ -1,11 +1,11 @@
 -- Values, arrays and objects from their tokens, a token or a part at a time.
-use Rattle.std.proofs.Common.{◌≡◌, ℕ, suc, ◌-◌, ◌<◌, ◌≤◌, Bool, List, [], ◌∷◌, ◌++◌, length, map, Option, Some, None, option_map, option_and_then, refl, sym, ap, subst, ◌∙◌, arith}
+use Rattle.std.proofs.Common.{◌≡◌, ℕ, ◌-◌, ◌<◌, Bool, List, [], ◌∷◌, ◌++◌, length, map, Some, None, option_map, refl, ap, subst, ◌∙◌, arith}
 use Rattle.json.specs.Token.{Token}
 use Rattle.json.specs.Lex.{tokens}
 use Rattle.json.specs.Json.{parse_map, after_end_array, read_key, items, members, value}
 use Rattle.json.proofs.Grammar.{value_is, value-begin_array, value-begin_object, after_end_array-shorter, read_key-shorter}
-use Rattle.serde_json.specs.Data.{Data, Num, unsigned, null, boolean, number, string, array, object, Members, no_members, put}
-use Rattle.serde_json.specs.Read.{of_json, of_items, of_members, converted, number_of, read as read_text}
+use Rattle.serde_json.specs.Data.{Data, unsigned, null, boolean, number, string, array, object, Members, no_members, put}
+use Rattle.serde_json.specs.Read.{of_json, converted, number_of, read as read_text}
 use Rattle.serde_json.specs.View.{view, items_of}
 use Rattle.serde_json.specs.declared.value.Value.{Value}
 use Rattle.json_tokens.proofs.Turns.{converted-array, converted-object, item_read, items_over, member_read, members_over, whole_read}
@@ -48,7 +48,7 @@ one_more_item depth ts d next ds rest going here later =
     let still = later.shorter in
     record {
       are = λ turns enough.
-        item_read (value depth) turns ts next d (omega (arith, enough, fewer)) going here.is ∙ ap (parse_map _) (later.are (turns - 1) (omega (arith, enough, fewer)));
+          item_read (value depth) turns ts next d (omega (arith, enough, fewer)) going here.is ∙ ap (parse_map _) (later.are (turns - 1) (omega (arith, enough, fewer)));
       shorter = omega (arith, fewer, still);
     }
 
@@ -75,7 +75,7 @@ one_more_member depth found ts name d next all rest here later =
     let still = later.shorter in
     record {
       are = λ turns enough.
-        member_read (value depth) found turns name ts here.after_name next d (omega (arith, enough, passed)) here.named here.holds.is ∙ later.are (turns - 1) (omega (arith, enough, passed, fewer));
+          member_read (value depth) found turns name ts here.after_name next d (omega (arith, enough, passed)) here.named here.holds.is ∙ later.are (turns - 1) (omega (arith, enough, passed, fewer));
       shorter = omega (arith, passed, fewer, still);
     }
 

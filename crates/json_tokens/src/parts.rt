@@ -42,7 +42,6 @@ fn number_of_numeral(numeral: &Numeral<'_>) -> Result<u64, Unread>
     }
 }
 
-
 /// The whole number of 64 bits that a number's text is, without a sign.
 pub fn whole_number(text: &str) -> Result<u64, Unread>
     ensures { IfOk result (λ n. number_of text.now ≡ Some (unsigned n)) }
@@ -89,13 +88,7 @@ pub fn name(reader: &mut Reader<'_>, name: &str) -> Result<(), Unread>
     ensures { OnOk result (read_key reader.old ≡ Some (Some name.now, reader.new)) }
 {
     match reader.next_key()? {
-        Some(key) => {
-            if key == name {
-                Ok(())
-            } else {
-                Err(Unread)
-            }
-        }
+        Some(key) => { if key == name { Ok(()) } else { Err(Unread) } }
         None => Err(Unread),
     }
 }

@@ -31,12 +31,7 @@ pub fn read_value(alloc: Global, reader: &mut Reader<'_>, depth: usize) -> Resul
             if depth == 0 {
                 return Err(Unread);
             }
-            Ok(Value::Object(read_members(
-                alloc,
-                reader,
-                depth - 1,
-                Map::new(alloc),
-            )?))
+            Ok(Value::Object(read_members(alloc, reader, depth - 1, Map::new(alloc))?))
         }
     }
 }

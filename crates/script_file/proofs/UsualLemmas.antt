@@ -1,9 +1,9 @@
 -- A script of the usual order, from its parts.
-use Rattle.std.proofs.Common.{◌≡◌, ℕ, ◌<◌, ◌≤◌, false, List, [], length, codes, Some, None, Result, Ok, ap, sym, ◌∙◌, ◌∷◌, arith}
+use Rattle.std.proofs.Common.{◌≡◌, ℕ, ◌≤◌, List, [], length, codes, Some, None, Ok, ap, sym, ◌∙◌, ◌∷◌, arith}
 use Rattle.std.specs.Prelude.{IsUtf8}
 use Rattle.json.specs.Token.{Token}
 use Rattle.json.specs.Json.{read_key}
-use Rattle.serde_json.specs.Data.{Data, unsigned, number, object, array, no_members, put}
+use Rattle.serde_json.specs.Data.{Data, unsigned, number, object, array, no_members}
 use Rattle.serde_json.specs.Read.{read as read_text}
 use Rattle.serde_json.specs.View.{items_of}
 use Rattle.json_forms.specs.Lists.{read_all}
@@ -13,10 +13,8 @@ use Rattle.json_tokens.proofs.Steps.{object_at, no_more_members, one_more_member
 use Rattle.script_types.specs.declared.Call.{Call}
 use Rattle.script_types.specs.declared.Script.{Script}
 use Rattle.script_types.specs.declared.StackSetup.{StackSetup}
-use Rattle.script_types.specs.declared.ScriptFault.{ScriptFault}
-use Rattle.script_forms.specs.Results.{◌>>=◌}
-use Rattle.script_forms.specs.Script.{stack_after, call_after, two_rewirers, one_rewirer, script_in, Says, json}
-use Rattle.script_forms.specs.Values.{counted, list_in, number_in}
+use Rattle.script_forms.specs.Script.{stack_after, call_after, script_in, json}
+use Rattle.script_forms.specs.Values.{counted, list_in}
 use Rattle.script_forms.proofs.Lists.{counted-good}
 use Rattle.script_file.specs.Reads.{ReadsAs}
 use Rattle.script_file.specs.Usual.{script_members, Joins, IsScriptAt}

@@ -1,5 +1,5 @@
 -- A script whose members come in the usual order.
-use Rattle.std.specs.Prelude.{◌≡◌, ℕ, false, List, [], length, codes, Ok}
+use Rattle.std.specs.Prelude.{◌≡◌, ℕ, List, [], length, codes, Ok}
 use Rattle.json.specs.Token.{Token}
 use Rattle.serde_json.specs.Data.{Data, unsigned, number, object, Members, no_members, put}
 use Rattle.json_forms.specs.Lists.{read_all}

@@ -2,8 +2,8 @@
 use Rattle.std.proofs.Common.{◌≡◌, ℕ, List, codes, Some, None, Ok, ◌∷◌, arith}
 use Rattle.json.specs.Token.{Token}
 use Rattle.json.specs.Json.{read_key}
-use Rattle.serde_json.specs.Data.{Data, unsigned, number, string, object, Members, no_members, put}
-use Rattle.json_tokens.specs.Tokens.{IsValueAt, IsMemberAt, AreMembersAt}
+use Rattle.serde_json.specs.Data.{Data, unsigned, number, object, Members, no_members, put}
+use Rattle.json_tokens.specs.Tokens.{IsValueAt, IsMemberAt}
 use Rattle.json_tokens.proofs.Steps.{object_at, no_more_members, one_more_member, member_at}
 use Rattle.script_types.specs.declared.Call.{Call}
 use Rattle.script_types.specs.declared.StackSetup.{StackSetup}

@@ -1,10 +1,10 @@
 -- Lists whose items are read one after the other, from their tokens.
-use Rattle.std.proofs.Common.{◌≡◌, ℕ, ◌+◌, ◌-◌, ◌<◌, ◌≤◌, List, [], ◌∷◌, ◌++◌, length, Result, Ok, Err, Some, None, refl, sym, ap, subst, ◌∙◌, arith, append_assoc, append-nil, length-append}
+use Rattle.std.proofs.Common.{◌≡◌, ℕ, ◌-◌, ◌<◌, ◌≤◌, List, [], ◌∷◌, ◌++◌, length, Result, Ok, Err, Some, None, sym, ap, subst, ◌∙◌, arith, append_assoc, append-nil, length-append}
 use Rattle.json.specs.Token.{Token}
 use Rattle.json.specs.Json.{after_end_array}
 use Rattle.serde_json.specs.Data.{Data, array}
 use Rattle.serde_json.specs.View.{items_of}
-use Rattle.json_forms.specs.Lists.{list_of, then_read, read_all}
+use Rattle.json_forms.specs.Lists.{then_read, read_all}
 use Rattle.json_forms.proofs.Reading.{list_of-items_of}
 use Rattle.json_tokens.specs.Tokens.{IsValueAt, AreItemsAt}
 use Rattle.json_tokens.proofs.Steps.{array_at, no_more_items, one_more_item}

@@ -1,7 +1,6 @@
 -- Calls of the usual form are the calls that their members tell.
-use Rattle.std.proofs.Common.{◌≡◌, ℕ, List, length, codes, true, None, Ok, refl, ap, ◌∙◌}
+use Rattle.std.proofs.Common.{◌≡◌, ℕ, List, length, codes, true, None, Ok}
 use Rattle.serde_json.specs.Data.{Data, unsigned, number, object}
-use Rattle.script_types.specs.declared.Call.{Call}
 use Rattle.script_types.specs.declared.CallKind.TheVariants as ask
 use Rattle.script_types.specs.declared.StackSetup.{StackSetup}
 use Rattle.script_forms.specs.Call.{call_in}

@@ -135,7 +135,12 @@ fn named(alloc: Global, lane: u64, word: &str) -> Result<Map<String, Value>, Unr
     ensures { IfOk result (λ m. members_view m.entries ≡ named_members lane word.now) }
 {
     let mut members = laned(alloc, lane)?;
-    put(&mut members, alloc, "call", Value::try_from_str(alloc, word)?)?;
+    put(
+        &mut members,
+        alloc,
+        "call",
+        Value::try_from_str(alloc, word)?,
+    )?;
     Ok(members)
 }
 

@@ -1,9 +1,9 @@
-use Rattle.std.proofs.Common.{◌≡◌, ◌-◌, ◌<◌, List, [], ◌∷◌, ◌++◌, length, map, Some, None, string_bytes, sym, ap, subst, ◌∙◌, arith, rules, append-nil}
+use Rattle.std.proofs.Common.{◌≡◌, ◌-◌, List, [], ◌∷◌, ◌++◌, map, Some, None, string_bytes, sym, ap, subst, ◌∙◌, arith, rules, append-nil}
 use Rattle.json.specs.Token.{Token}
 use Rattle.json.specs.Json.{after_end_array, read_key}
 use Rattle.json.specs.Reads.{token_of}
-use Rattle.serde_json.specs.Data.{Data, Members, null, boolean, string, object, array, no_members, put}
-use Rattle.serde_json.specs.View.{view, items_of, members_view}
+use Rattle.serde_json.specs.Data.{Data, Members, null, boolean, string, put}
+use Rattle.serde_json.specs.View.{view, members_view}
 use Rattle.serde_json.specs.declared.value.Value.{String, Bool, Null, the_lemmas}
 use Rattle.serde_json.proofs.Views.{view-Array, view-Object, members_view-insert_entry}
 use Rattle.json_tokens.specs.Tokens.{IsValueAt, AreItemsAt, AreMembersAt}
