@@ -2,7 +2,7 @@
 ghost use Rattle.std.specs.Prelude.{◌≡◌, ◌∷◌, ℕ, false, Some, None, IfOk, OnOk};
 ghost use Rattle.json.specs.Json.{read_key};
 ghost use Rattle.json.specs.Token.{begin_array as array_begun, begin_object as object_begun};
-ghost use Rattle.serde_json.specs.Data.{number as number_data, string as text_data, unsigned};
+ghost use Rattle.serde_json.specs.Data.{boolean, number as number_data, string as text_data, unsigned};
 ghost use Rattle.serde_json.specs.Read.{number_from, number_of};
 ghost use Rattle.json_tokens.specs.Tokens.{IsValueAt, IsMemberAt};
 
@@ -103,6 +103,16 @@ pub fn number(reader: &mut Reader<'_>) -> Result<u64, Unread>
     }
 }
 
+/// A truth value.
+pub fn truth(reader: &mut Reader<'_>) -> Result<bool, Unread>
+    ensures { IfOk result (λ b. (depth : ℕ) → IsValueAt depth reader.old (boolean b) reader.new) }
+{
+    match reader.next() {
+        Some(Token::Bool(truth)) => Ok(truth),
+        _ => Err(Unread),
+    }
+}
+
 /// A text.
 pub fn text<'t>(reader: &mut Reader<'t>) -> Result<&'t str, Unread>
     ensures { IfOk result (λ s. (depth : ℕ) → IsValueAt depth reader.old (text_data s.now) reader.new) }
@@ -119,12 +129,4 @@ pub fn number_at(reader: &mut Reader<'_>, at: &str) -> Result<u64, Unread>
 {
     name(reader, at)?;
     number(reader)
-}
-
-/// The text of a member of this name.
-pub fn text_at<'t>(reader: &mut Reader<'t>, at: &str) -> Result<&'t str, Unread>
-    ensures { IfOk result (λ s. (depth : ℕ) → IsMemberAt depth reader.old at.now (text_data s.now) reader.new) }
-{
-    name(reader, at)?;
-    text(reader)
 }

@@ -1,14 +1,14 @@
 -- The ends of calls of the usual form.
-use Rattle.std.proofs.Common.{◌≡◌, ℕ, List, codes, Some, None, Ok, ◌∷◌, arith}
+use Rattle.std.proofs.Common.{◌≡◌, ℕ, Bool, Option, List, codes, Some, None, Ok, ◌∷◌, arith}
 use Rattle.json.specs.Token.{Token}
 use Rattle.json.specs.Json.{read_key}
 use Rattle.serde_json.specs.Data.{Data, unsigned, number, object, Members, no_members, put}
-use Rattle.json_tokens.specs.Tokens.{IsValueAt, IsMemberAt}
+use Rattle.json_tokens.specs.Tokens.{IsValueAt, AreMembersAt, IsMemberAt}
 use Rattle.json_tokens.proofs.Steps.{object_at, no_more_members, one_more_member, member_at}
 use Rattle.script_types.specs.declared.Call.{Call}
 use Rattle.script_types.specs.declared.StackSetup.{StackSetup}
 use Rattle.script_forms.specs.Call.{call_in}
-use Rattle.script_tokens.specs.Usual.{laned_members, placed_members, send_members, EndsCall, EndsCallBehind}
+use Rattle.script_tokens.specs.Usual.{laned_members, placed_members, pumped_members, send_members, EndsCall, EndsCallBehind}
 
 module _ (lanes : ℕ) (stacks : List StackSetup) (call : Call) where
   -- no member follows
@@ -24,11 +24,12 @@ module _ (lanes : ℕ) (stacks : List StackSetup) (call : Call) where
   value-ends before name d ts next rest here ends from named = member-ends before name d from next rest (member_at 124 from name ts d next named here) ends
 
   -- a send, behind the name of its binding
-  pub send-ends : (lane stack binding : ℕ) (frames : Data) (ts t1 t2 t3 rest : List Token)
-      → IsValueAt 124 ts (number (unsigned binding)) t1 → read_key t1 ≡ Some (Some (codes "frames"), t2) → IsValueAt 124 t2 frames t3 → read_key t3 ≡ Some (None, rest)
-      → call_in lanes stacks (object (send_members lane stack binding frames)) ≡ Ok call → EndsCallBehind lanes stacks (placed_members lane (codes "send") stack) (codes "binding") ts rest call
-  send-ends lane stack binding frames ts t1 t2 t3 rest at_binding frames_named at_frames over is =
-      let last = nothing-ends (send_members lane stack binding frames) t3 rest over is in
+  pub send-ends : (lane stack binding : ℕ) (frames : Data) (pump : Option Bool) (ts t1 t2 t3 rest : List Token)
+      → IsValueAt 124 ts (number (unsigned binding)) t1 → read_key t1 ≡ Some (Some (codes "frames"), t2) → IsValueAt 124 t2 frames t3
+      → AreMembersAt 124 (send_members lane stack binding frames) t3 (pumped_members pump (send_members lane stack binding frames)) rest
+      → call_in lanes stacks (object (pumped_members pump (send_members lane stack binding frames))) ≡ Ok call → EndsCallBehind lanes stacks (placed_members lane (codes "send") stack) (codes "binding") ts rest call
+  send-ends lane stack binding frames pump ts t1 t2 t3 rest at_binding frames_named at_frames over is =
+      let last : EndsCall lanes stacks (send_members lane stack binding frames) t3 rest call = (pumped_members pump (send_members lane stack binding frames), over, is) in
       let bound = put (codes "binding") (number (unsigned binding)) (placed_members lane (codes "send") stack) in
       value-ends (placed_members lane (codes "send") stack) (codes "binding") (number (unsigned binding)) ts t1 rest at_binding (value-ends bound (codes "frames") frames t2 t3 rest at_frames last t1 frames_named)
 

@@ -1,8 +1,8 @@
 -- The members of a call of the usual form, which come in this order.
-use Rattle.std.specs.Prelude.{◌≡◌, ℕ, List, codes, Some, Ok}
+use Rattle.std.specs.Prelude.{◌≡◌, ℕ, List, codes, Bool, Option, Some, None, Ok}
 use Rattle.json.specs.Token.{Token}
 use Rattle.json.specs.Json.{read_key}
-use Rattle.serde_json.specs.Data.{Data, unsigned, number, string, object, Members, no_members, put}
+use Rattle.serde_json.specs.Data.{Data, unsigned, boolean, number, string, object, Members, no_members, put}
 use Rattle.json_tokens.specs.Tokens.{AreMembersAt}
 use Rattle.script_types.specs.declared.Call.{Call}
 use Rattle.script_types.specs.declared.StackSetup.{StackSetup}
@@ -24,6 +24,11 @@ placed_members lane word stack = put (codes "stack") (number (unsigned stack)) (
 abbrev pub send_members : ℕ → ℕ → ℕ → Data → Members
 send_members lane stack binding frames =
     put (codes "frames") frames (put (codes "binding") (number (unsigned binding)) (placed_members lane (codes "send") stack))
+
+-- whether the call is pumped too, where that is told
+abbrev pub pumped_members : Option Bool → Members → Members
+pumped_members None ms = ms
+pumped_members (Some pump) ms = put (codes "pump") (boolean pump) ms
 
 -- the members that stand first, up to the object's end, make the members before them this call
 abbrev pub EndsCall : ℕ → List StackSetup → Members → List Token → List Token → Call → Type 0

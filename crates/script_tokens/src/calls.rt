@@ -1,20 +1,20 @@
 //! Calls, and their frames.
 ghost use Rattle.std.specs.Prelude.{◌≡◌, ◌<◌, ◌≤◌, [], ℕ, List, Ok, codes, length, IfOk};
 ghost use Rattle.json_forms.specs.Lists.{read_all};
-ghost use Rattle.json_tokens.specs.Tokens.{IsValueAt};
-ghost use Rattle.serde_json.specs.Data.{Data, array, number as number_data, object, string, unsigned};
+ghost use Rattle.json_tokens.specs.Tokens.{AreMembersAt, IsValueAt};
+ghost use Rattle.serde_json.specs.Data.{Data, Members, array, number as number_data, object, string, unsigned};
 ghost use Rattle.serde_json.specs.View.{items_of, members_view};
 ghost use Rattle.script_forms.specs.Call.{call_in};
 ghost use Rattle.script_forms.specs.Script.{call_after};
 ghost use Rattle.script_forms.specs.Stack.{bindings_at};
 ghost use Rattle.script_forms.specs.Values.{frame_in, frames_in, place_in};
-ghost use Rattle.script_tokens.specs.Usual.{EndsCall, EndsCallBehind, laned_members, named_members, placed_members, send_members};
+ghost use Rattle.script_tokens.specs.Usual.{EndsCall, EndsCallBehind, laned_members, named_members, placed_members, pumped_members, send_members};
 
 use crate::digits::decode;
 use journal_types::Frames;
 use json::Reader;
 use json_tokens::parts::{
-    Unread, begin_array, begin_object, end_object, name, number, number_at, text,
+    Unread, begin_array, begin_object, end_object, name, number, number_at, text, truth,
 };
 use json_tokens::tree::{read_members, read_value};
 use ndis_base::{Frame, LaneNo};
@@ -92,8 +92,9 @@ fn sent(
     stack: u64,
     binding: u64,
     frames: Frames,
+    pump: Option<bool>,
 ) -> Result<Call, Unread>
-    ensures { IfOk result (λ call. (d : Data) → frames_in d ≡ Ok frames → call_in lanes stacks.now (object (send_members lane stack binding d)) ≡ Ok call) }
+    ensures { IfOk result (λ call. (d : Data) → frames_in d ≡ Ok frames → call_in lanes stacks.now (object (pumped_members pump (send_members lane stack binding d))) ≡ Ok call) }
 {
     check_place(lane, 7, lanes as usize)?;
     check_place(stack, 3, stacks.len())?;
@@ -101,7 +102,7 @@ fn sent(
     Ok(Call {
         lane: LaneNo(lane as u8),
         stack: stack as u8,
-        pump: true,
+        pump: pump.unwrap_or(true),
         kind: CallKind::Send {
             binding: binding as u32,
             cancel: None,
@@ -186,7 +187,23 @@ fn by_tree_from(
     by_tree(alloc, lanes, stacks, more, reader)
 }
 
-// A send behind the name of its binding, which its frames follow as the last member.
+// Whether a call is pumped, where its last member tells it.
+fn last_pump(reader: &mut Reader<'_>) -> Result<Option<bool>, Unread>
+    ensures { IfOk result (λ pump. (before : Members) → AreMembersAt 124 before reader.old (pumped_members pump before) reader.new) }
+{
+    match reader.next_key()? {
+        None => Ok(None),
+        Some("pump") => {
+            let pump = truth(reader)?;
+            end_object(reader)?;
+            Ok(Some(pump))
+        }
+        Some(_) => Err(Unread),
+    }
+}
+
+// A send behind the name of its binding, which its frames follow, and then nothing but whether it is
+// pumped.
 fn bound_send(
     alloc: Global,
     lanes: u8,
@@ -200,8 +217,8 @@ fn bound_send(
     let binding = number(reader)?;
     name(reader, "frames")?;
     let frames = frames(alloc, reader)?;
-    end_object(reader)?;
-    sent(lanes, stacks, lane, stack, binding, frames)
+    let pump = last_pump(reader)?;
+    sent(lanes, stacks, lane, stack, binding, frames, pump)
 }
 
 fn send_behind(
@@ -342,8 +359,8 @@ fn call(
 }
 
 /// The calls of a script of so many lanes and of these stacks, one at a time. Each begins with its
-/// lane. No tree is made of a transmit, nor of a send whose other members are its binding and frames,
-/// in this order.
+/// lane. No tree is made of a transmit, nor of a send whose other members are its binding, its frames
+/// and whether it is pumped, in this order.
 pub fn each_call(
     alloc: Global,
     lanes: u8,
