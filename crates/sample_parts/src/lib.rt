@@ -47,7 +47,10 @@ fn rest_miniport<M: MiniportCalls>(miniport: &mut M) -> bool
 }
 
 /// Drivers that rest. One that keeps a list is let go.
-fn rested_miniports<M: MiniportCalls>(alloc: Global, those: Vec<M>) -> Result<Vec<M>, OutOfMemory>
+pub fn rested_miniports<M: MiniportCalls>(
+    alloc: Global,
+    those: Vec<M>,
+) -> Result<Vec<M>, OutOfMemory>
     ensures { IfOk result (λ v. All IsHaltedDriver (map M.state v.items)) }
 {
     let mut those = those;
@@ -73,7 +76,10 @@ fn rest_protocol<P: ProtocolCalls>(protocol: &mut P) -> bool
 }
 
 /// Drivers that rest. One that keeps a list is let go.
-fn rested_protocols<P: ProtocolCalls>(alloc: Global, those: Vec<P>) -> Result<Vec<P>, OutOfMemory>
+pub fn rested_protocols<P: ProtocolCalls>(
+    alloc: Global,
+    those: Vec<P>,
+) -> Result<Vec<P>, OutOfMemory>
     ensures { IfOk result (λ v. All IsClosedDriver (map P.state v.items)) }
 {
     let mut those = those;
@@ -99,7 +105,7 @@ fn rest_filter<F: FilterCalls>(filter: &mut F) -> bool
 }
 
 /// Drivers that rest. One that keeps a list is let go.
-fn rested_filters<F: FilterCalls>(alloc: Global, those: Vec<F>) -> Result<Vec<F>, OutOfMemory>
+pub fn rested_filters<F: FilterCalls>(alloc: Global, those: Vec<F>) -> Result<Vec<F>, OutOfMemory>
     ensures { IfOk result (λ v. All IsResting (map F.state v.items)) }
 {
     let mut those = those;

@@ -1,0 +1,142 @@
+//! What the filter does when it is called.
+ghost use Rattle.std.specs.Prelude.{◌≡◌, ◌↔◌, [], None, Some, IsOk, OnOk, OnErr, IfErr, IsTrue};
+ghost use Rattle.ndis_base.specs.declared.Direction.TheVariants as direction;
+ghost use Rattle.ndis_base.specs.declared.FilterKind.TheVariants.{Rule};
+ghost use Rattle.promise_rules.specs.declared.Called.TheVariants as called;
+ghost use Rattle.buffer_pools.specs.Views.{IsOf};
+ghost use Rattle.driver_calls.specs.declared.faults.AttachFault.TheVariants.{Refused};
+ghost use Rattle.driver_calls.specs.Rooms.{HasRoomFor};
+ghost use Rattle.driver_calls.specs.Filters.{MayHandle, IsHandled, Completes, Refuses};
+ghost use Rattle.frame_filters.specs.Filters.{new_filter, keeping};
+ghost use Rattle.own_filter.specs.Blocking.{is_blocking};
+ghost use Rattle.own_filter.specs.Counting.{counted_list};
+ghost use Rattle.own_filter.specs.States.{state_of};
+
+use crate::blocking::{block, is_blocking};
+use crate::board::Board;
+use crate::counts::Counts;
+use crate::parts::EtherTypeFilter;
+use buffer_pools::BufferList;
+use driver_calls::{AttachFault, FilterDriver};
+use driver_tray::Tray;
+use driver_views::Served;
+use frame_filters::{not_called, risen};
+use journal_types::Setup;
+use ndis_base::{FilterKind, ListStatus, OutOfMemory};
+use std::alloc::Global;
+use std::sync::Arc;
+
+/// A filter that keeps no list passes another module's list homewards, and takes a list of its own home.
+fn pass_home(list: BufferList, status: ListStatus, tray: &mut Tray)
+    requires own { list.label.owner ≡ tray.old.caller → IsOf tray.old.pool list }
+    requires room { HasRoomFor 2 1 tray.old }
+    ensures { Completes (keeping []) list status tray.old [] tray.new }
+{
+    if list.owner() == tray.caller() {
+        tray.spend(list, status);
+    } else {
+        tray.pass_back(list, status);
+    }
+}
+
+impl EtherTypeFilter {
+    /// A filter on the shelf that was never called. It tells what it counted on the board.
+    pub fn make(blocked: u16, board: Arc<Board, Global>) -> EtherTypeFilter
+        ensures { ⟦<EtherTypeFilter as FilterDriver>⟧.state result ≡ new_filter Rule }
+    {
+        EtherTypeFilter {
+            blocked,
+            setup: None,
+            served: not_called(),
+            refusals: 0,
+            seen: Counts::none(),
+            board,
+        }
+    }
+}
+
+impl FilterDriver for EtherTypeFilter {
+    ghost state = { λ f. state_of f };
+
+    ghost room = { λ _. 1 };
+
+    fn kind(&self) -> FilterKind {
+        FilterKind::Rule
+    }
+
+    fn served(&self) -> Served {
+        self.served
+    }
+
+    fn refusals(&self) -> u64 {
+        self.refusals
+    }
+
+    fn held(&self) -> usize {
+        0
+    }
+
+    fn make_room(&mut self, _max: usize) -> Result<(), OutOfMemory> {
+        Ok(())
+    }
+
+    /// It refuses exactly the programs that say anything else.
+    fn attach(&mut self, _alloc: Global, setup: Setup) -> Result<(), AttachFault>
+        ensures attached { OnOk result (state_of self.new ≡ record (state_of self.old) { setup = Some setup }) }
+        ensures fits { IsOk result ↔ IsTrue (is_blocking self.old.blocked setup) }
+        ensures refused { IfErr result (λ fault. fault ≡ Refused) }
+        ensures refuses { OnErr result (Refuses (state_of self.old) (state_of self.new)) }
+    {
+        if is_blocking(self.blocked, &setup) {
+            self.setup = Some(setup);
+            Ok(())
+        } else {
+            self.refusals = risen(self.refusals);
+            Err(AttachFault::Refused)
+        }
+    }
+
+    fn send(&mut self, list: BufferList, tray: &mut Tray)
+        requires may { MayHandle called.Send direction.Down (state_of self.old) list tray.old }
+        ensures handled { IsHandled called.Send (state_of self.old) list tray.old (state_of self.new) tray.new }
+        ensures seen { self.new.seen ≡ counted_list list.frames self.old.seen }
+    {
+        self.served.send += 1;
+        self.seen.add_list(&list);
+        block(self.blocked, list, tray);
+    }
+
+    fn send_complete(&mut self, list: BufferList, status: ListStatus, tray: &mut Tray) {
+        self.served.send_complete += 1;
+        pass_home(list, status, tray);
+    }
+
+    fn receive(&mut self, list: BufferList, tray: &mut Tray)
+        requires may { MayHandle called.Receive direction.Up (state_of self.old) list tray.old }
+        ensures handled { IsHandled called.Receive (state_of self.old) list tray.old (state_of self.new) tray.new }
+        ensures seen { self.new.seen ≡ counted_list list.frames self.old.seen }
+    {
+        self.served.receive += 1;
+        self.seen.add_list(&list);
+        block(self.blocked, list, tray);
+    }
+
+    fn returned(&mut self, list: BufferList, status: ListStatus, tray: &mut Tray) {
+        self.served.returned += 1;
+        pass_home(list, status, tray);
+    }
+
+    fn cancel(&mut self, _id: u32, _tray: &mut Tray) {}
+
+    fn tick(&mut self, _tray: &mut Tray) {}
+
+    fn pause(&mut self) {}
+
+    fn restart(&mut self) {}
+
+    /// It tells on the board what it counted.
+    fn detach(&mut self) {
+        self.board.tell(&self.seen);
+        self.setup = None;
+    }
+}
