@@ -1,7 +1,8 @@
 //! Frames as programs leave them.
-ghost use Rattle.std.specs.Prelude.{◌≡◌, ◌≢◌, ◌≤◌, [], OnOk, All, vec_len};
+ghost use Rattle.std.specs.Prelude.{◌≡◌, ◌≤◌, [], OnOk, All, vec_len};
 ghost use Rattle.program_types.specs.Apply.{applied};
 ghost use Rattle.hand_lemmas.specs.Frames.{AreSized};
+ghost use Rattle.frame_rules.specs.declared.applying.Verdict.TheVariants.{Same};
 ghost use Rattle.frame_programs.specs.Judged.{Leaves};
 ghost use Rattle.frame_programs.specs.Spaces.{HasRoom};
 
@@ -96,7 +97,7 @@ impl MadeFrames {
         requires room { 1 ≤ self.old.room }
         requires sized { AreSized list.now.frames }
         ensures leaves { Leaves result (applied 1518 program.now list.now.frames) list.now.frames self.new.frames }
-        ensures room { result ≢ Verdict.Changed → self.new.room ≡ self.old.room }
+        ensures room { result ≡ Same → self.new.room ≡ self.old.room }
     {
         match judge(program, list, &mut self.spaces) {
             Verdict::Same => Verdict::Same,

@@ -3,9 +3,10 @@ ghost use Rattle.std.specs.Prelude.{◌≡◌, ◌≤◌};
 ghost use Rattle.stack_rules.specs.Handled.{program};
 ghost use Rattle.hand_lemmas.specs.Frames.{AreSized};
 ghost use Rattle.driver_calls.specs.Rooms.{HasRoomForNew};
+ghost use Rattle.driver_calls.specs.declared.fates.LentFate.TheVariants.{Left};
 ghost use Rattle.driver_calls.specs.Filters.{Handles, HandlesLent};
 ghost use Rattle.frame_filters.specs.Filters.{keeping};
-ghost use Rattle.rule_filters.specs.Changes.{Changes, PassesCopy};
+ghost use Rattle.rule_filters.specs.Changes.{Changes, Copying};
 
 use buffer_pools::BufferList;
 use driver_calls::LentFate;
@@ -63,13 +64,12 @@ pub(crate) fn handle(
     }
 }
 
-/// Passes a copy with these frames on in the place of a list that is lent, where the pool has a list for it
-/// (WDK, "Receiving Data", NDIS_RECEIVE_FLAGS_RESOURCES).
-fn pass_copied(made: &[Frame], list: &BufferList, tray: &mut Tray) -> LentFate
+/// Passes a copy with these frames on in the place of a list that is lent, where the pool has a list for it.
+fn pass_copy(made: &[Frame], list: &BufferList, tray: &mut Tray) -> LentFate
     requires sized { AreSized made.now }
     requires pool { tray.old.pool.bytes ≡ 1518 }
     requires room { HasRoomForNew 3 1 tray.old }
-    ensures { PassesCopy made.now list.now tray.old tray.new result }
+    ensures { Copying made.now list.now tray.old tray.new result }
 {
     match tray.pass_copy(list, made) {
         Ok(()) => LentFate::Copied,
@@ -77,8 +77,8 @@ fn pass_copied(made: &[Frame], list: &BufferList, tray: &mut Tray) -> LentFate
     }
 }
 
-/// Drops a list that is lent where the program drops one of its frames, leaves it as it is where they stay the
-/// same, and else passes a copy on.
+/// Tells what becomes of a list that is lent: it is dropped where the program drops one of its frames, left as it
+/// is where they stay the same, and else a copy goes on in its place.
 pub(crate) fn handle_lent(
     setup: &Setup,
     made: &mut MadeFrames,
@@ -89,12 +89,12 @@ pub(crate) fn handle_lent(
     requires sized { AreSized list.now.frames }
     requires pool { tray.old.pool.bytes ≡ 1518 }
     requires room { HasRoomForNew 3 1 tray.old }
-    ensures lent { HandlesLent setup.now list.now tray.old tray.new result }
-    ensures left { result ≡ LentFate.Left → made.new.room ≡ made.old.room }
+    ensures handles { HandlesLent setup.now list.now tray.old tray.new result }
+    ensures room { result ≡ Left → made.new.room ≡ made.old.room }
 {
     match made.apply(program_of(setup, list.direction()), list) {
         Verdict::Drop => LentFate::Dropped,
         Verdict::Same => LentFate::Left,
-        Verdict::Changed => pass_copied(made.frames(), list, tray),
+        Verdict::Changed => pass_copy(made.frames(), list, tray),
     }
 }

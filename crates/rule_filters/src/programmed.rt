@@ -5,10 +5,11 @@ ghost use Rattle.promise_rules.specs.declared.Called.TheVariants as called;
 ghost use Rattle.stack_rules.specs.Tests.{is_hold};
 ghost use Rattle.hand_lemmas.specs.Frames.{AreSized};
 ghost use Rattle.driver_calls.specs.Rooms.{HasRoomForNew};
-ghost use Rattle.driver_calls.specs.Filters.{MayHandle, IsHandled, MayComplete, IsCompleted, IsLentTo, Refuses};
+ghost use Rattle.driver_calls.specs.Filters.{MayHandle, IsHandled, MayComplete, IsCompleted, Refuses, IsLentTo};
 ghost use Rattle.frame_filters.specs.Filters.{new_filter};
 ghost use Rattle.rule_filters.specs.States.{programmed_state, room_of};
-ghost use Rattle.rule_filters.specs.Changes.{HandlesList};
+ghost use Rattle.rule_filters.specs.Changes.{HandlesList, HandlesLentList};
+ghost use Rattle.driver_calls.specs.declared.fates.LentFate.TheVariants.{Left};
 
 use crate::handling::{handle, handle_lent};
 use crate::parts::Programmed;
@@ -109,17 +110,30 @@ impl Programmed {
         self.handle(list, tray);
     }
 
-    pub(crate) fn receive_lent(&mut self, list: &BufferList, tray: &mut Tray) -> LentFate
-        requires may { MayHandle called.ReceiveLent direction.Lent (programmed_state self.old) list.now tray.old }
+    fn handle_lent(&mut self, list: &BufferList, tray: &mut Tray) -> LentFate
+        requires setup { IsSome self.old.setup }
+        requires sized { AreSized list.now.frames }
+        requires pool { tray.old.pool.bytes ≡ 1518 }
+        requires tray_room { HasRoomForNew 3 1 tray.old }
         requires room { 1 ≤ room_of self.old }
-        ensures lent { IsLentTo (programmed_state self.old) list.now tray.old result (programmed_state self.new) tray.new }
-        ensures room { result ≡ LentFate.Left → room_of self.old ≤ room_of self.new }
+        ensures state { programmed_state self.new ≡ programmed_state self.old }
+        ensures handles { HandlesLentList self.old.setup list.now tray.old tray.new result }
+        ensures room { result ≡ Left → room_of self.new ≡ room_of self.old }
     {
-        self.served.receive_lent += 1;
         match &self.setup {
             Some(setup) => handle_lent(setup, &mut self.made, list, tray),
             None => unreachable!(),
         }
+    }
+
+    pub(crate) fn receive_lent(&mut self, list: &BufferList, tray: &mut Tray) -> LentFate
+        requires may { MayHandle called.ReceiveLent direction.Lent (programmed_state self.old) list.now tray.old }
+        requires room { 1 ≤ room_of self.old }
+        ensures lent { IsLentTo (programmed_state self.old) list.now tray.old result (programmed_state self.new) tray.new }
+        ensures room { result ≡ Left → room_of self.old ≤ room_of self.new }
+    {
+        self.served.receive_lent += 1;
+        self.handle_lent(list, tray)
     }
 
     pub(crate) fn returned(&mut self, list: BufferList, status: ListStatus, tray: &mut Tray)

@@ -1,25 +1,30 @@
-use Rattle.std.proofs.Common.{◌≡◌, List, Some, refl, sym, ap, subst, ◌∙◌}
+use Rattle.std.proofs.Common.{◌≡◌, List, sym, ap, subst, ◌∙◌, refl}
 use Rattle.program_types.specs.declared.Rule.{Rule}
 use Rattle.program_types.specs.Apply.{applied}
 use Rattle.stack_rules.specs.Handled.{program}
 use Rattle.driver_calls.specs.Filters.{made_by}
+use Rattle.driver_calls.specs.Filters.HandlesLent.{drops}
 use Rattle.frame_programs.specs.Judged.{IsMadeOf}
-use Rattle.rule_filters.specs.Changes.{PassesCopy}
-use Rattle.rule_filters.proofs.Lent.{leaves_same, copies_changed}
+use Rattle.rule_filters.specs.Changes.{Copying}
+use Rattle.rule_filters.proofs.Ways.{leaves_same, copies_changed}
 use Rattle.rule_filters.proofs.handling.handle_lent.Goals as goal
 
-pub returns-in-Same-clause-lent : goal.returns-in-Same-clause-lent
-returns-in-Same-clause-lent c =
+pub returns-in-Drop-clause-handles : goal.returns-in-Drop-clause-handles
+returns-in-Drop-clause-handles c =
     let l = c.args.list.now in
     let rules : c.program_of.result.now ≡ program c.args.setup.now l.label.direction = c.program_of.ensures ∙ ap (program c.args.setup.now) c.direction.ensures in
-    let made : made_by c.args.setup.now l c.args.tray.now ≡ Some l.frames = ap (λ (rs : List Rule). applied 1518 rs l.frames) (sym rules) ∙ c.in-Same.ensures.leaves in
-    leaves_same c.args.setup.now l c.args.tray.now c.args.tray.now made refl
+    drops (ap (λ (rs : List Rule). applied 1518 rs l.frames) (sym rules) ∙ c.in-Drop.ensures.leaves) refl
 
-pub returns-in-Changed-clause-lent : goal.returns-in-Changed-clause-lent
-returns-in-Changed-clause-lent c =
+pub returns-in-Same-clause-handles : goal.returns-in-Same-clause-handles
+returns-in-Same-clause-handles c =
+    let l = c.args.list.now in
+    let rules : c.program_of.result.now ≡ program c.args.setup.now l.label.direction = c.program_of.ensures ∙ ap (program c.args.setup.now) c.direction.ensures in
+    leaves_same c.args.setup.now l c.args.tray.now (ap (λ (rs : List Rule). applied 1518 rs l.frames) (sym rules) ∙ c.in-Same.ensures.leaves)
+
+pub returns-in-Changed-clause-handles : goal.returns-in-Changed-clause-handles
+returns-in-Changed-clause-handles c =
     let l = c.args.list.now in
     let rules : c.program_of.result.now ≡ program c.args.setup.now l.label.direction = c.program_of.ensures ∙ ap (program c.args.setup.now) c.direction.ensures in
     let made : IsMadeOf (made_by c.args.setup.now l c.args.tray.now) l.frames c.apply.new.self.frames = subst (λ rs. IsMadeOf (applied 1518 rs l.frames) l.frames c.apply.new.self.frames) rules c.in-Changed.ensures.leaves in
-    let passes : PassesCopy c.apply.new.self.frames l c.args.tray.now c.pass_copied.new.tray c.pass_copied.result =
-    subst (λ fs. PassesCopy fs l c.args.tray.now c.pass_copied.new.tray c.pass_copied.result) c.frames.ensures c.pass_copied.ensures in
-    copies_changed c.args.setup.now l c.args.tray.now c.pass_copied.new.tray c.apply.new.self.frames c.pass_copied.result made passes
+    copies_changed c.args.setup.now l c.args.tray.now c.pass_copy.new.tray c.apply.new.self.frames c.pass_copy.result made
+    (subst (λ fs. Copying fs l c.args.tray.now c.pass_copy.new.tray c.pass_copy.result) c.frames.ensures c.pass_copy.ensures)
