@@ -81,6 +81,9 @@ applied_drop max n (f ∷ fs) = ap (onto (apply max (drop_rule n ∷ []) f)) (ap
     step false true f fs made h = rw h refl
     step false false f fs made h = rw h refl
 
+pub made_is : (n : ℕ) (p : Setup) (l : ListView) (t : TrayView) → is_blocking n p ≡ true → made_by p l t ≡ (if carries n l.frames then None else Some l.frames)
+made_is n p l t h = rw (program_is n p l.label.direction h) (applied_drop 1518 n l.frames)
+
 -- so the list is turned back, or goes on
 pub blocks : (n : ℕ) (s : FilterState) (p : Setup) (l : ListView) (t t' : TrayView) → is_blocking n p ≡ true → t' ≡ blocked n l t → Handles s p l t s.kept t'
 blocks n s p l t t' h w = by (carries n l.frames) made w

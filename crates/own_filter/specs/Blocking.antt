@@ -9,6 +9,8 @@ use Rattle.program_types.specs.declared.Rule.{Rule}
 use Rattle.program_types.specs.Apply.{pair_at}
 use Rattle.journal_types.specs.declared.Setup.{Setup}
 use Rattle.buffer_pools.specs.Views.{ListView}
+use Rattle.driver_calls.specs.declared.fates.LentFate.{LentFate}
+use Rattle.driver_calls.specs.declared.fates.LentFate.TheVariants as fate
 use Rattle.driver_tray.specs.Tray.{TrayView, turned_back, passed_on}
 
 -- the rule drops frames of this EtherType
@@ -29,6 +31,10 @@ is_blocking n setup = is_only_drop n setup.send && is_only_drop n setup.receive
 abbrev pub carries : ℕ → List (List ℕ) → Bool
 carries n [] = false
 carries n (frame ∷ frames) = pair_at frame 12 == n || carries n frames
+
+-- a list that is lent is dropped, or left as it is
+abbrev pub lent_fate : ℕ → List (List ℕ) → LentFate
+lent_fate n frames = if carries n frames then fate.Dropped else fate.Left
 
 -- the list is turned back as Dropped, or passed on
 abbrev pub blocked : ℕ → ListView → TrayView → TrayView

@@ -12,12 +12,12 @@ ghost use Rattle.own_filter.specs.Blocking.{is_blocking};
 ghost use Rattle.own_filter.specs.Counting.{counted_list};
 ghost use Rattle.own_filter.specs.States.{state_of};
 
-use crate::blocking::{block, is_blocking};
+use crate::blocking::{block, is_blocking, lent_fate};
 use crate::board::Board;
 use crate::counts::Counts;
 use crate::parts::EtherTypeFilter;
 use buffer_pools::BufferList;
-use driver_calls::{AttachFault, FilterDriver};
+use driver_calls::{AttachFault, FilterDriver, LentFate};
 use driver_tray::Tray;
 use driver_views::Served;
 use frame_filters::{not_called, risen};
@@ -119,6 +119,12 @@ impl FilterDriver for EtherTypeFilter {
         self.served.receive += 1;
         self.seen.add_list(&list);
         block(self.blocked, list, tray);
+    }
+
+    fn receive_lent(&mut self, list: &BufferList, _tray: &mut Tray) -> LentFate {
+        self.served.receive_lent += 1;
+        self.seen.add_list(list);
+        lent_fate(self.blocked, list)
     }
 
     fn returned(&mut self, list: BufferList, status: ListStatus, tray: &mut Tray) {
