@@ -300,6 +300,11 @@ opened_and_ended filters calls a b none w =
       ends = subst (λ ts. promised.Ends (ending_of (seen a.tray.head (ts ++ (k.opening ++ k.middle))).phase) k.last) none (ends_as (ending_of (seen a.tray.head (a.tray.turns ++ (k.opening ++ k.middle))).phase) k.last k.ends);
     }
 
+-- its middle is the calls' turns
+pub middle_is : (filters : List FilterSetup) (calls : List Call) (a b : BookView) (none : a.tray.turns ≡ []) (w : RunsWhole filters calls a b) → (opened_and_ended filters calls a b none w).middle ≡ w.added.kind.middle
+unfolding opened_and_ended
+middle_is filters calls a b none w = refl
+
 -- the stack runs, unless its adapter refused
 pub runs_unless_refused : (filters : List FilterSetup) (calls : List Call) (a b : BookView) → a.tray.turns ≡ [] → RunsWhole filters calls a b → RunsUnlessRefused a.tray.head filters b.tray.turns a.held.miniport b.held.miniport
 unfolding opened_and_ended

@@ -1,5 +1,5 @@
 -- A run in an order of lanes follows each lane's calls, and its calls stand in that order.
-use Rattle.std.proofs.Common.{ℕ, ◌≡◌, ◌≢◌, ◌==◌, Bool, true, false, All, List, [], ◌∷◌, ◌++◌, Some, None, if◌then◌else◌, refl, ap, sym, subst, ◌∙◌, inl, inr, arith, eq-eqb}
+use Rattle.std.proofs.Common.{ℕ, ◌≡◌, ◌≢◌, ◌==◌, Bool, true, false, All, Bor, List, [], ◌∷◌, ◌++◌, map, Some, None, if◌then◌else◌, refl, ap, sym, subst, ◌∙◌, inl, inr, arith, eq-eqb}
 use Rattle.std.proofs.lemmas.Bool.Decides.{nat_tests}
 use Rattle.std.specs.List.{list_all}
 use Rattle.std.proofs.lemmas.List.{append-nil}
@@ -22,7 +22,7 @@ use Rattle.book_runs.specs.Runs.{OpensStack, EndsStack}
 use Rattle.book_scripts.specs.Orders.{IsCallAlone, StandTogether, CallsInOrder}
 use Rattle.book_scripts.specs.Scripts.{Makes, MakesAll, MakesEach, RunsWhole, is_asked_call, is_asked_event}
 use Rattle.book_scripts.proofs.Whole.{both_true, asked_opened, runs_whole}
-use Rattle.book_scripts.proofs.Followed.{AllBy, IsBy, by_call, of_lane, same_lane, zero_stack, follows_call, followed, opened_and_ended}
+use Rattle.book_scripts.proofs.Followed.{AllBy, IsBy, by_call, of_lane, same_lane, zero_stack, follows_call, followed, opened_and_ended, middle_is}
 
 differ : {A : Type 0} → true ≡ false → A
 differ e = absurd (cc)
@@ -40,23 +40,22 @@ own_first lane c cs e = ap (λ (b : Bool). if b then c ∷ calls_of lane cs else
 other_first : (lane : ℕ) (c : Call) (cs : List Call) → (c.lane.0 == lane) ≡ false → calls_of lane (c ∷ cs) ≡ calls_of lane cs
 other_first lane c cs e = ap (λ (b : Bool). if b then c ∷ calls_of lane cs else calls_of lane cs) e
 
--- what follows calls follows the lane's own among them
-lane_follows : (stacks : List StackSetup) (lane : LaneNo) (calls : List Call) (tail : Tail) (rests : List (List Turn)) → Follows stacks lane calls tail rests → Follows stacks lane (calls_of lane.0 calls) tail rests
-lane_follows stacks lane [] tails.Ended rests (done rests none) = done rests none
-lane_follows stacks lane (c ∷ cs) tails.Ended rests (other c cs rests ne f) =
-    subst (λ (xs : List Call). Follows stacks lane xs tails.Ended rests) (sym (other_first lane.0 c cs (by_test (c.lane.0 == lane.0) refl))) (lane_follows stacks lane cs tails.Ended rests f)
+differs : (a l : ℕ) → a ≢ l → (a == l) ≡ false
+differs a l ne = by_test (a == l) refl
   where
-    by_test : (b : Bool) → (c.lane.0 == lane.0) ≡ b → (c.lane.0 == lane.0) ≡ false
+    by_test : (b : Bool) → (a == l) ≡ b → (a == l) ≡ false
     by_test false e = e
-    by_test true e = absurd (ne (same e))
-      where
-        same : (c.lane.0 == lane.0) ≡ true → c.lane.0 ≡ lane.0
-        same t = ap (λ (l : LaneNo). l.0) (same_lane c.lane lane t)
-lane_follows stacks lane (c ∷ cs) tails.Ended rests (called c cs rests turn at by what its f) =
+    by_test true e = absurd (ne (is_same a l e))
+
+-- what follows calls follows the lane's own among them
+lane_follows : (stacks : List StackSetup) (lane : LaneNo) {calls : List Call} {tail : Tail} {rests : List (List Turn)} → Follows stacks lane calls tail rests → Follows stacks lane (calls_of lane.0 calls) tail rests
+lane_follows stacks lane (done rests none) = done rests none
+lane_follows stacks lane (other c cs rests ne f) =
+    subst (λ (xs : List Call). Follows stacks lane xs tails.Ended rests) (sym (other_first lane.0 c cs (differs c.lane.0 lane.0 ne))) (lane_follows stacks lane f)
+lane_follows stacks lane (called c cs rests turn at by what its f) =
     subst (λ (xs : List Call). Follows stacks lane xs tails.Ended rests) (sym (own_first lane.0 c cs (eq-eqb c.lane.0 lane.0 (ap (λ (l : LaneNo). l.0) its))))
-    (called c (calls_of lane.0 cs) rests turn at by what its (lane_follows stacks lane cs _ _ f))
-lane_follows stacks lane cs tail rests (helped cs tail rests s turn at_stack at by what f) =
-    helped (calls_of lane.0 cs) tail rests s turn at_stack at by what (lane_follows stacks lane cs _ _ f)
+    (called c (calls_of lane.0 cs) rests turn at by what its (lane_follows stacks lane f))
+lane_follows stacks lane (helped cs tail rests s turn at_stack at by what f) = helped (calls_of lane.0 cs) tail rests s turn at_stack at by what (lane_follows stacks lane f)
 
 -- calls of other lanes may stand between
 skips_all : (stacks : List StackSetup) (lane : LaneNo) (calls : List Call) (rests : List (List Turn)) → calls_of lane.0 calls ≡ [] → Follows stacks lane [] tails.Ended rests → Follows stacks lane calls tails.Ended rests
@@ -105,17 +104,15 @@ of_its_lane lane (c ∷ cs) d ds is = by_test (c.lane.0 == lane) refl (λ left. 
     by_test false e later = later (sym (other_first lane c cs e) ∙ is)
 
 -- what follows a lane's own calls follows all calls
-all_follow : (stacks : List StackSetup) (lane : LaneNo) (own : List Call) (tail : Tail) (rests : List (List Turn)) → Follows stacks lane own tail rests → (calls : List Call) → calls_of lane.0 calls ≡ own → Follows stacks lane calls tail rests
-all_follow stacks lane [] tails.Ended rests (done rests none) calls is = skips_all stacks lane calls rests is (done rests none)
-all_follow stacks lane (d ∷ ds) tails.Ended rests (other d ds rests ne f) calls is = absurd (ne (of_its_lane lane.0 calls d ds is))
-all_follow stacks lane (d ∷ ds) tails.Ended rests (called d ds rests turn at by what its f) calls is =
-    skips_to stacks lane calls d ds rests is (λ cs left. called d cs rests turn at by what its (all_follow stacks lane ds _ _ f cs left))
-all_follow stacks lane own tail rests (helped own tail rests s turn at_stack at by what f) calls is =
-    helped calls tail rests s turn at_stack at by what (all_follow stacks lane own _ _ f calls is)
+all_follow : (stacks : List StackSetup) (lane : LaneNo) {own : List Call} {tail : Tail} {rests : List (List Turn)} → Follows stacks lane own tail rests → (calls : List Call) → calls_of lane.0 calls ≡ own → Follows stacks lane calls tail rests
+all_follow stacks lane (done rests none) calls is = skips_all stacks lane calls rests is (done rests none)
+all_follow stacks lane (other d ds rests ne f) calls is = absurd (ne (of_its_lane lane.0 calls d ds is))
+all_follow stacks lane (called d ds rests turn at by what its f) calls is = skips_to stacks lane calls d ds rests is (λ cs left. called d cs rests turn at by what its (all_follow stacks lane f cs left))
+all_follow stacks lane (helped own tail rests s turn at_stack at by what f) calls is = helped calls tail rests s turn at_stack at by what (all_follow stacks lane f calls is)
 
 -- lists with the same calls of a lane are followed alike
 same_followed : (stacks : List StackSetup) (lane : LaneNo) (xs ys : List Call) (rests : List (List Turn)) → calls_of lane.0 xs ≡ calls_of lane.0 ys → IsFollowed stacks lane xs rests → IsFollowed stacks lane ys rests
-same_followed stacks lane xs ys rests same f = all_follow stacks lane (calls_of lane.0 xs) tails.Ended rests (lane_follows stacks lane xs tails.Ended rests f) ys (sym same)
+same_followed stacks lane xs ys rests same f = all_follow stacks lane (lane_follows stacks lane f) ys (sym same)
 
 pub followed_in_order : (stacks : List StackSetup) (filters : List FilterSetup) (lanes : ℕ) (order : List ℕ) (calls : List Call) (a b : BookView) (lane : LaneNo) → list_all (is_asked_call a.tray.head) calls ≡ true → list_all (is_below lanes) calls ≡ true → a.tray.turns ≡ []
     → RunsWhole filters (ordered lanes order calls) a b → IsFollowed stacks lane calls (b.tray.turns ∷ [])
@@ -157,8 +154,12 @@ runs_in_order filters lanes order calls made a b c d is o m e = runs_whole filte
 -- the calls of a run stand in their order
 pub calls_in_order : (stacks : List StackSetup) (filters : List FilterSetup) (lanes : ℕ) (order : List ℕ) (calls : List Call) (a b : BookView) → list_all (is_asked_call a.tray.head) calls ≡ true → a.tray.turns ≡ []
     → RunsWhole filters (ordered lanes order calls) a b → CallsInOrder stacks a.tray.head filters (ordered lanes order calls) b.tray.turns
-unfolding opened_and_ended
 calls_in_order stacks filters lanes order calls a b asked none w = record {
   ended = opened_and_ended filters (ordered lanes order calls) a b none w;
-  together = stand_together stacks a.tray.head (ordered lanes order calls) w.added.kind.middle (all_kept (is_asked_call a.tray.head) lanes order calls asked) w.added.kind.made;
+  together = subst (StandTogether stacks (ordered lanes order calls)) (sym (middle_is filters (ordered lanes order calls) a b none w))
+      (stand_together stacks a.tray.head (ordered lanes order calls) w.added.kind.middle (all_kept (is_asked_call a.tray.head) lanes order calls asked) w.added.kind.made);
 }
+
+-- the same, from the slice of the calls in order
+pub slice_in_order : (xs ys : List (Bor Call)) (zs : List Call) → xs ≡ ys → map (λ (c : Bor Call). c.now) ys ≡ zs → map (λ (c : Bor Call). c.now) xs ≡ zs
+slice_in_order xs ys zs same is = ap (map (λ (c : Bor Call). c.now)) same ∙ is

@@ -1,8 +1,8 @@
 -- A run, call by call.
-use Rattle.std.proofs.Common.{◌≡◌, ◌⊎◌, inl, inr, ℕ, ◌≤◌, ◌<◌, ◌+◌, ◌&&◌, Bool, true, false, List, [], ◌∷◌, ◌++◌, Some, zero, suc, length, take, get_or, refl, sym, ap, subst, ◌∙◌, arith}
+use Rattle.std.proofs.Common.{◌≡◌, ◌⊎◌, inl, inr, ℕ, ◌≤◌, ◌<◌, ◌+◌, ◌&&◌, Bool, true, false, Bor, List, [], ◌∷◌, ◌++◌, Some, zero, suc, length, map, take, get_or, refl, sym, ap, subst, ◌∙◌, arith}
 use Rattle.std.specs.List.{list_all}
 use Rattle.std.proofs.lemmas.Bool.{cases_lt}
-use Rattle.std.proofs.lemmas.List.{append-nil, append_assoc, take_more}
+use Rattle.std.proofs.lemmas.List.{append-nil, append_assoc, take_more, get_or-map, length-map}
 use Rattle.ndis_base.specs.declared.Phase.TheVariants as phase
 use Rattle.journal_types.specs.declared.Event.{Event}
 use Rattle.journal_types.specs.declared.StackHead.{StackHead}
@@ -101,6 +101,23 @@ pub asked_at : (p : Call → Bool) (calls : List Call) (k : ℕ) (d : Call) → 
 asked_at p [] k d all less = absurd (omega (arith, less))
 asked_at p (c ∷ calls) zero d all less = (both_true (p c) (list_all p calls) all).0
 asked_at p (c ∷ calls) (suc k) d all less = asked_at p calls k d (both_true (p c) (list_all p calls) all).1 (omega (arith, less))
+
+-- the same of calls that are borrowed
+now_at : (calls : List (Bor Call)) (k : ℕ) (call : Bor Call) → k < length calls → call ≡ get_or calls k call → call.now ≡ get_or (map (λ (c : Bor Call). c.now) calls) k call.now
+now_at calls k call less is = ap (λ (c : Bor Call). c.now) is ∙ sym (get_or-map (λ (c : Bor Call). c.now) calls k call call.now less)
+
+pub asked_next : (h h' : StackHead) (calls : List (Bor Call)) (k : ℕ) (call : Bor Call) → h' ≡ h → k < length calls → call ≡ get_or calls k call → list_all (is_asked_call h) (map (λ (c : Bor Call). c.now) calls) ≡ true → is_asked_call h' call.now ≡ true
+asked_next h h' calls k call same less is all =
+    let there : k < length (map (λ (c : Bor Call). c.now) calls) = subst (λ (n : ℕ). k < n) (sym (length-map calls (λ (c : Bor Call). c.now))) less in
+    ap (λ (x : StackHead). is_asked_call x call.now) same
+    ∙ ap (is_asked_call h) (now_at calls k call less is)
+    ∙ asked_at (is_asked_call h) (map (λ (c : Bor Call). c.now) calls) k call.now all there
+
+pub made_next : (calls : List (Bor Call)) (k : ℕ) (call : Bor Call) (x y z : BookView) → k < length calls → call ≡ get_or calls k call → MakesEach (take k (map (λ (c : Bor Call). c.now) calls)) x y → MakesOne call.now y z
+    → MakesEach (take (k + 1) (map (λ (c : Bor Call). c.now) calls)) x z
+made_next calls k call x y z less is p q =
+    let there : k < length (map (λ (c : Bor Call). c.now) calls) = subst (λ (n : ℕ). k < n) (sym (length-map calls (λ (c : Bor Call). c.now))) less in
+    made_more (map (λ (c : Bor Call). c.now) calls) k call.now x y z there (now_at calls k call less is) p q
 
 -- the calls can be asked of the opened stack too
 pub asked_opened : (s : List Call) (filters : List FilterSetup) (x y : BookView) → OpensStack filters x y → list_all (is_asked_call x.tray.head) s ≡ true → list_all (is_asked_call y.tray.head) s ≡ true
