@@ -39,6 +39,7 @@ worked_unasked (event.Remove filter) w = refl
 worked_unasked (event.Replace filter kind setup) w = refl
 worked_unasked (event.Send binding cancel frames) w = refl
 worked_unasked (event.Indicate frames) w = refl
+worked_unasked (event.Lend frames) w = refl
 worked_unasked (event.GiveBack binding list) w = refl
 worked_unasked (event.Cancel id) w = refl
 worked_unasked event.Transmit w = refl

@@ -168,6 +168,7 @@ pub record EndsStack (old new : BookView) : Type 0 where
 abbrev pub MayCall : Event → Type 0
 MayCall (event.Send binding cancel frames) = Unit {0}
 MayCall (event.Indicate frames) = Unit {0}
+MayCall (event.Lend frames) = Unit {0}
 MayCall (event.GiveBack binding list) = Unit {0}
 MayCall (event.Cancel id) = Unit {0}
 MayCall event.Transmit = Unit {0}

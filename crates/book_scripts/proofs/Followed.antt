@@ -151,6 +151,7 @@ no_tail false = refl
 tail_is : (head : StackHead) (link : Link) (k : CallKind) (p : Bool) (r : Reply) → is_asked_event head (event_of k) ≡ true → tail_of link 0 p k r ≡ pumping_if p (tail_of_call (event_asked link k) r)
 tail_is head link (ask.Send binding cancel frames) p r h = refl
 tail_is head link (ask.Indicate frames) p r h = refl
+tail_is head link (ask.Lend frames) p r h = refl
 tail_is head link (ask.GiveBack binding list) p r h = refl
 tail_is head link (ask.Cancel id) p r h = refl
 tail_is head link ask.Transmit p r h = refl
@@ -167,6 +168,7 @@ tail_is head link _ p r h = differ h
 asks_event : (head : StackHead) (link : Link) (k : CallKind) (e : Event) → is_asked_event head (event_of k) ≡ true → event_of k ≡ Some e → e ≡ event_asked link k
 asks_event head link (ask.Send binding cancel frames) e h is = cc
 asks_event head link (ask.Indicate frames) e h is = cc
+asks_event head link (ask.Lend frames) e h is = cc
 asks_event head link (ask.GiveBack binding list) e h is = cc
 asks_event head link (ask.Cancel id) e h is = cc
 asks_event head link ask.Transmit e h is = cc
@@ -183,6 +185,7 @@ asks_event head link _ e h is = differ h
 asks_stack : (head : StackHead) (link : Link) (s : ℕ) (k : CallKind) → is_asked_event head (event_of k) ≡ true → stack_asked link s k ≡ s
 asks_stack head link s (ask.Send binding cancel frames) h = refl
 asks_stack head link s (ask.Indicate frames) h = refl
+asks_stack head link s (ask.Lend frames) h = refl
 asks_stack head link s (ask.GiveBack binding list) h = refl
 asks_stack head link s (ask.Cancel id) h = refl
 asks_stack head link s ask.Transmit h = refl

@@ -100,11 +100,7 @@ fn no_order(alloc: Global, word: &String) -> Option<Vec<u8>>
 }
 
 /// The order behind `replay` that a word names and holds.
-fn named_order(
-    alloc: Global,
-    word: &String,
-    order: &String,
-) -> Result<Option<Vec<u8>>, OutOfMemory>
+fn named_order(alloc: Global, word: &String, order: &String) -> Result<Option<Vec<u8>>, OutOfMemory>
     ensures told { IfOk result (λ o. option_map (λ lanes. lanes.items) o ≡ form.order_in (string_bytes word.now ∷ string_bytes order.now ∷ [])) }
     ensures memory { OnErr result (is_some (form.order_in (string_bytes word.now ∷ string_bytes order.now ∷ [])) ≡ true) }
 {

@@ -14,10 +14,13 @@ use Rattle.stack_rules.specs.Tests.{is_down, is_hold, same_frames, same_number}
 use Rattle.stack_rules.specs.Outcome.{max_frame}
 use Rattle.stack_rules.specs.Handled.{program}
 use Rattle.promise_rules.specs.declared.Called.{Called}
+use Rattle.promise_rules.specs.declared.Called.TheVariants as called
 use Rattle.agenda_items.specs.Waits.{waits_at}
 use Rattle.hand_lemmas.specs.Frames.{AreSized}
 use Rattle.driver_views.specs.States.{FilterState, IsRisen, called_for}
-use Rattle.driver_tray.specs.Tray.{TrayView, turned_back, passed_on, passed_back, noted, clone_label, cloned_on, spent, each_turned_back, each_passed_on}
+use Rattle.driver_tray.specs.Tray.{TrayView, turned_back, passed_on, passed_back, noted, clone_label, cloned_on, spent, each_turned_back, each_passed_on, Copies}
+use Rattle.driver_calls.specs.declared.fates.LentFate.{LentFate}
+use Rattle.driver_calls.specs.declared.fates.LentFate.TheVariants as fate
 use Rattle.driver_calls.specs.Rooms.{CanCount, HasRoomFor, HasRoomForNew, HasRoomForAll}
 
 -- a list may be given to it
@@ -128,3 +131,18 @@ pub record Refuses (s s' : FilterState) : Type 0 where
 pub record MayAttach (s : FilterState) : Type 0 where
   pub setup : s.setup ≡ None
   pub kept : s.kept ≡ []
+
+-- it leaves a list that is lent to it as it is where its program does, and else passes a copy on, unless no frames are
+-- left or its pool has no list
+pub data HandlesLent (p : Setup) (l : ListView) (t : TrayView) (t' : TrayView) : LentFate → Type 0 where
+  leaves : (frames : List (List ℕ)) → made_by p l t ≡ Some frames → same_frames frames l.frames ≡ true → t' ≡ t → HandlesLent p l t t' fate.Left
+  drops : made_by p l t ≡ None → t' ≡ t → HandlesLent p l t t' fate.Dropped
+  lacks : (frames : List (List ℕ)) → made_by p l t ≡ Some frames → same_frames frames l.frames ≡ false → live_count t.pool ≡ t.pool.size → t' ≡ t
+      → HandlesLent p l t t' fate.Lacking
+  copies : (frames : List (List ℕ)) → made_by p l t ≡ Some frames → same_frames frames l.frames ≡ false → live_count t.pool ≢ t.pool.size
+      → AreSized frames → Copies t l frames t' → HandlesLent p l t t' fate.Copied
+
+-- it counts the call, and nothing else of it changes
+pub record IsLentTo (s : FilterState) (l : ListView) (t : TrayView) (became : LentFate) (s' : FilterState) (t' : TrayView) : Type 0 where
+  pub same : s' ≡ record s { did = called_for called.ReceiveLent s.did }
+  pub by : (p : Setup) → s.setup ≡ Some p → HandlesLent p l t t' became

@@ -3,9 +3,11 @@ ghost use Rattle.std.specs.Prelude.{◌≡◌, ℕ, ◌≤◌, [], None, Some, O
 ghost use Rattle.ndis_base.specs.declared.Direction.TheVariants as direction;
 ghost use Rattle.promise_rules.specs.declared.Called.TheVariants as called;
 ghost use Rattle.driver_views.specs.States.{FilterState};
+ghost use Rattle.driver_calls.specs.declared.fates.LentFate.TheVariants.{Left};
 ghost use Rattle.driver_calls.specs.declared.faults.AttachFault.TheVariants.{Refused, Memory};
-ghost use Rattle.driver_calls.specs.Filters.{MayHandle, IsHandled, MayComplete, IsCompleted, MayGiveAll, IsCancelled, IsDrained, MayAttach, Refuses};
+ghost use Rattle.driver_calls.specs.Filters.{MayHandle, IsHandled, MayComplete, IsCompleted, MayGiveAll, IsCancelled, IsDrained, MayAttach, Refuses, IsLentTo};
 
+use crate::fates::LentFate;
 use crate::faults::AttachFault;
 use buffer_pools::BufferList;
 use driver_tray::Tray;
@@ -67,6 +69,15 @@ pub trait FilterDriver: Send + Drop {
         requires may { MayHandle called.Receive direction.Up (state self.old) list tray.old }
         requires room { 1 ≤ room self.old }
         ensures { IsHandled called.Receive (state self.old) list tray.old (state self.new) tray.new };
+
+    /// A receive that stays its lender's (WDK, "FilterReceiveNetBufferLists" with
+    /// NDIS_RECEIVE_FLAGS_RESOURCES): what it makes of the list, which is its lender's again afterwards. Where
+    /// it leaves the list as it is, it uses no room.
+    fn receive_lent(&mut self, list: &BufferList, tray: &mut Tray) -> LentFate
+        requires may { MayHandle called.ReceiveLent direction.Lent (state self.old) list.now tray.old }
+        requires room { 1 ≤ room self.old }
+        ensures lent { IsLentTo (state self.old) list.now tray.old result (state self.new) tray.new }
+        ensures room { result ≡ Left → room self.old ≤ room self.new };
 
     /// A receive on its way home (WDK, "FilterReturnNetBufferLists").
     fn returned(&mut self, list: BufferList, status: ListStatus, tray: &mut Tray)
@@ -151,6 +162,15 @@ pub trait FilterCalls: Drop {
         requires room { 1 ≤ room self.old }
         ensures { IsHandled called.Receive (state self.old) list tray.old (state self.new) tray.new };
 
+    /// A receive that stays its lender's (WDK, "FilterReceiveNetBufferLists" with
+    /// NDIS_RECEIVE_FLAGS_RESOURCES): what it makes of the list, which is its lender's again afterwards. Where
+    /// it leaves the list as it is, it uses no room.
+    fn receive_lent(&mut self, list: &BufferList, tray: &mut Tray) -> LentFate
+        requires may { MayHandle called.ReceiveLent direction.Lent (state self.old) list.now tray.old }
+        requires room { 1 ≤ room self.old }
+        ensures lent { IsLentTo (state self.old) list.now tray.old result (state self.new) tray.new }
+        ensures room { result ≡ Left → room self.old ≤ room self.new };
+
     /// A receive on its way home (WDK, "FilterReturnNetBufferLists").
     fn returned(&mut self, list: BufferList, status: ListStatus, tray: &mut Tray)
         requires may { MayComplete called.Returned direction.Up (state self.old) list tray.old }
@@ -219,6 +239,10 @@ impl FilterCalls for Box<dyn FilterDriver> {
 
     fn receive(&mut self, list: BufferList, tray: &mut Tray) {
         (**self).receive(list, tray);
+    }
+
+    fn receive_lent(&mut self, list: &BufferList, tray: &mut Tray) -> LentFate {
+        (**self).receive_lent(list, tray)
     }
 
     fn returned(&mut self, list: BufferList, status: ListStatus, tray: &mut Tray) {

@@ -101,6 +101,18 @@ waits_issued net label frames w slack number root h =
       room = h.room;
     }
 
+-- a copy is no clone
+pub waits_copied : (net : Net) (label : Label) (lent : ListNo) (frames : List (List ℕ)) (w : WaitView) (slack : ℕ) → label.number.0 ≡ net.next.list → label.origin ≡ origin.Copy lent → HasWaits net w slack
+    → HasWaits (after net (issue_row label frames)) w slack
+waits_copied net label lent frames w slack number copy h =
+    let told : Tells (after net (issue_row label frames)) (with_clone label.origin label.number w) =
+    tells_issued net label.number label.owner label.config label.direction label.cancel label.origin frames w h.tells (free_of net label.number.0 w slack number h) in
+    record {
+      tells = subst (λ (o : Origin). Tells (after net (issue_row label frames)) (with_clone o label.number w)) copy told;
+      numbered = numbered_after net (issue_row label frames) number h.numbered;
+      room = h.room;
+    }
+
 -- the tables with one more clone
 abbrev pub one_clone : ListNo → ListNo → WaitView → WaitView
 one_clone n original w = record w { clones = w.clones ++ (n.0, original.0) ∷ []; room = w.room - 1 }

@@ -7,6 +7,7 @@ use Rattle.ndis_base.specs.declared.ListNo.{ListNo}
 use Rattle.ndis_base.specs.declared.ListStatus.{ListStatus}
 use Rattle.ndis_base.specs.declared.Who.{Who}
 use Rattle.ndis_base.specs.declared.Direction.{Direction}
+use Rattle.ndis_base.specs.declared.Direction.TheVariants as direction
 use Rattle.ndis_base.specs.declared.Origin.TheVariants as origin
 use Rattle.journal_types.specs.declared.StackHead.{StackHead}
 use Rattle.journal_types.specs.declared.Event.{Event}
@@ -250,6 +251,38 @@ pub record Clones (t : TrayView) (l : ListView) (made : List (List ℕ)) (t' : T
   pub frames : clone.frames ≡ made
   pub issues : Issues t.pool clone t'.pool
   pub tray : t' ≡ cloned_on t l clone t'.pool
+
+-- a new list of the module that is called, whose frames the journal has, is with its owner, which lends it
+abbrev pub lent_out : TrayView → ListView → PoolView → TrayView
+lent_out t l pool = written (record t { pool = pool }) (issue_row l.label l.frames)
+
+pub record LendsOut (t : TrayView) (made : List (List ℕ)) (l : ListView) (t' : TrayView) : Type 0 where
+  pub label : l.label ≡ root_label t direction.Lent None
+  pub frames : l.frames ≡ made
+  pub issues : Issues t.pool l t'.pool
+  pub tray : t' ≡ lent_out t l t'.pool
+
+-- the label of a copy of a list that is lent, of the pool of the module that is called
+abbrev pub copy_label : TrayView → ListView → Label
+copy_label t l = record {
+  number = list_no t.net.next.list;
+  owner = t.caller;
+  config = config_no t.net.modules.config;
+  direction = direction.Up;
+  cancel = None;
+  origin = origin.Copy l.label.number;
+}
+
+-- the module passed a copy on in the place of a list that is lent to it
+abbrev pub copied_on : TrayView → ListView → PoolView → TrayView
+copied_on t c pool = passed_on (issued (record t { pool = pool }) c.label c.frames) c
+
+pub record Copies (t : TrayView) (l : ListView) (made : List (List ℕ)) (t' : TrayView) : Type 0 where
+  pub copy : ListView
+  pub label : copy.label ≡ copy_label t l
+  pub frames : copy.frames ≡ made
+  pub issues : Issues t.pool copy t'.pool
+  pub tray : t' ≡ copied_on t copy t'.pool
 
 -- the number of the filter whose state a row tells; 0 for another
 abbrev pub phase_filter : PhaseOf → ℕ

@@ -5,7 +5,7 @@ ghost use Rattle.frame_arena.specs.Spans.{frames_at, SpanWithin};
 ghost use Rattle.stack_rules.specs.Places.{position};
 ghost use Rattle.journal_types.specs.declared.Row.TheVariants as row;
 ghost use Rattle.stack_rules.specs.Outcome.{list_no};
-ghost use Rattle.driver_tray.specs.Tray.{given, passed_on, passed_back, turned_back, noted, written, wired, delivered, onward_row, homeward_row, root_label, Starts, Clones, Spends};
+ghost use Rattle.driver_tray.specs.Tray.{given, passed_on, passed_back, turned_back, noted, written, wired, delivered, onward_row, homeward_row, root_label, Starts, Clones, Spends, LendsOut, Copies};
 
 use crate::tray::Tray;
 use buffer_pools::{BufferList, Label, NoList};
@@ -263,6 +263,56 @@ impl Tray {
             way,
             to,
         });
+        Ok(())
+    }
+
+    /// Makes a new list of the called module's pool with these frames, which the journal has. The list is its
+    /// owner's while it is lent to other modules (WDK, "Receiving Data", NDIS_RECEIVE_FLAGS_RESOURCES). After
+    /// `NoList` the tray is as before.
+    pub fn lend(&mut self, made: &[Frame], span: FrameSpan) -> Result<BufferList, NoList>
+        requires fits { Fits made.now self.old.pool.bytes }
+        requires within { SpanWithin self.old.payloads.frames span }
+        requires shown { frames_at self.old.payloads.frames span ≡ made.now }
+        requires room { 1 ≤ self.old.room.rows }
+        requires low { self.old.net.next.list < 2 ^ 60 }
+        requires received { self.old.net.port.received < 2 ^ 60 }
+        ensures lends { IfOk result (λ l. LendsOut self.old made.now l self.new) }
+        ensures no_list { IsErr result ↔ (live_count self.old.pool ≡ self.old.pool.size) }
+        ensures unchanged { OnErr result (self.new ≡ self.old) }
+    {
+        let label = self.root(Direction::Lent, None);
+        let list = self.pool.issue(label, made)?;
+        self.issue_held(label, span);
+        Ok(list)
+    }
+
+    /// Passes a copy with other frames on in the place of a list that is lent to the called module. After
+    /// `NoList` the tray is as before.
+    pub fn pass_copy(&mut self, list: &BufferList, made: &[Frame]) -> Result<(), NoList>
+        requires fits { Fits made.now 1518 }
+        requires pool { self.old.pool.bytes ≡ 1518 }
+        requires room { 2 ≤ self.old.room.rows }
+        requires frame_room { 8 ≤ self.old.room.frames }
+        requires byte_room { 8 * 1518 ≤ self.old.room.bytes }
+        requires slack { 1 ≤ self.old.slack }
+        requires low { self.old.net.next.list < 2 ^ 60 }
+        requires received { self.old.net.port.received < 2 ^ 60 }
+        ensures copies { OnOk result (Copies self.old list.now made.now self.new) }
+        ensures no_list { IsErr result ↔ (live_count self.old.pool ≡ self.old.pool.size) }
+        ensures unchanged { OnErr result (self.new ≡ self.old) }
+    {
+        let label = Label {
+            number: self.ledger.next_list(),
+            owner: self.caller,
+            config: self.ledger.config(),
+            direction: Direction::Up,
+            cancel: None,
+            origin: Origin::Copy(list.number()),
+        };
+        let copy = self.pool.issue(label, made)?;
+        let span = self.hold_frames(made);
+        self.issue_copy(label, list.number(), span);
+        self.forward(copy);
         Ok(())
     }
 }

@@ -99,6 +99,13 @@ impl Tray {
         self.ledger.next_list()
     }
 
+    /// How many frames the miniport indicated.
+    pub fn received(&self) -> u64
+        ensures { result ≡ self.now.net.port.received }
+    {
+        self.ledger.received()
+    }
+
     /// The number of the filter that is attached next.
     pub fn next_filter(&self) -> u64
         ensures { result ≡ self.now.net.next.filter }

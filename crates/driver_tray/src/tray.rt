@@ -248,6 +248,20 @@ impl Tray {
         self.ledger.issue(label.owner, span.count);
     }
 
+    /// Writes the Issue row of a copy of a lent list, whose frames the journal has.
+    pub(crate) fn issue_copy(&mut self, label: Label, lent: ListNo, span: FrameSpan)
+        requires copy { label.origin ≡ origin.Copy lent }
+        requires number { label.number.0 ≡ self.old.net.next.list }
+        requires low { self.old.net.next.list < 2 ^ 60 }
+        requires received { self.old.net.port.received + span.count < 2 ^ 64 }
+        requires within { SpanWithin self.old.payloads.frames span }
+        requires room { 1 ≤ self.old.room.rows }
+        ensures { self.new ≡ written self.old (issue_row label (frames_at self.old.payloads.frames span)) }
+    {
+        write_issue(&mut self.journal, label, span);
+        self.ledger.issue(label.owner, span.count);
+    }
+
     /// Writes the Issue row of a clone whose frames the journal has, and puts the clone behind what is on
     /// its way. The row by which it is passed is written after it.
     pub(crate) fn issue_clone(

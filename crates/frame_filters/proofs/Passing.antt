@@ -11,8 +11,10 @@ use Rattle.stack_rules.specs.Handled.{program}
 use Rattle.buffer_pools.specs.Views.{ListView}
 use Rattle.driver_views.specs.States.{FilterState}
 use Rattle.driver_tray.specs.Tray.{TrayView, passed_on, noted}
-use Rattle.driver_calls.specs.Filters.{made_by, Handles}
+use Rattle.driver_calls.specs.declared.fates.LentFate.TheVariants as fate
+use Rattle.driver_calls.specs.Filters.{made_by, Handles, HandlesLent}
 use Rattle.driver_calls.specs.Filters.Handles.{passes, holds}
+use Rattle.driver_calls.specs.Filters.HandlesLent.{leaves}
 use Rattle.frame_filters.specs.Filters.{IsEmpty}
 
 -- no rules change nothing
@@ -48,3 +50,9 @@ pub holds_all : (s : FilterState) (p : Setup) (l : ListView) (t : TrayView) (kep
 holds_all s p l t kept' t' hold e k w =
     let made : made_by p l t ≡ Some l.frames = rw (program_empty p l.label.direction e) (applied_nothing 1518 l.frames) in
     holds l.frames made (same_itself l.frames) hold k w
+
+-- or it is left as it is, where it is lent
+pub leaves_all : (p : Setup) (l : ListView) (t : TrayView) (t' : TrayView) → IsEmpty p → t' ≡ t → HandlesLent p l t t' fate.Left
+leaves_all p l t t' e w =
+    let made : made_by p l t ≡ Some l.frames = rw (program_empty p l.label.direction e) (applied_nothing 1518 l.frames) in
+    leaves l.frames made (same_itself l.frames) w

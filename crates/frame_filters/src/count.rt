@@ -6,7 +6,7 @@ ghost use Rattle.frame_filters.specs.States.{plain_state};
 
 use crate::parts::Plain;
 use buffer_pools::BufferList;
-use driver_calls::{AttachFault, FilterDriver};
+use driver_calls::{AttachFault, FilterDriver, LentFate};
 use driver_tray::Tray;
 use driver_views::Served;
 use journal_types::Setup;
@@ -71,6 +71,10 @@ impl FilterDriver for CountFilter {
 
     fn receive(&mut self, list: BufferList, tray: &mut Tray) {
         self.core.receive(list, tray);
+    }
+
+    fn receive_lent(&mut self, _list: &BufferList, _tray: &mut Tray) -> LentFate {
+        self.core.receive_lent()
     }
 
     fn returned(&mut self, list: BufferList, status: ListStatus, tray: &mut Tray) {

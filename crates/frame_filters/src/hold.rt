@@ -7,7 +7,7 @@ ghost use Rattle.frame_filters.specs.Filters.{filter_of, new_filter, IsEmpty};
 use crate::counts::{is_empty, not_called, risen};
 use crate::originals::take_home;
 use buffer_pools::BufferList;
-use driver_calls::{AttachFault, FilterDriver};
+use driver_calls::{AttachFault, FilterDriver, LentFate};
 use driver_tray::Tray;
 use driver_views::Served;
 use journal_types::Setup;
@@ -93,6 +93,12 @@ impl FilterDriver for HoldFilter {
         self.served.receive += 1;
         tray.keep_note(list.number());
         self.kept.push(list);
+    }
+
+    /// It keeps no list that is lent to it.
+    fn receive_lent(&mut self, _list: &BufferList, _tray: &mut Tray) -> LentFate {
+        self.served.receive_lent += 1;
+        LentFate::Left
     }
 
     #[tactic(auto, using(crate::proofs::Homeward::completes_as))]

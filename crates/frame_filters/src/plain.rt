@@ -4,6 +4,9 @@ ghost use Rattle.ndis_base.specs.declared.Direction.TheVariants as direction;
 ghost use Rattle.promise_rules.specs.declared.Called.TheVariants as called;
 ghost use Rattle.stack_rules.specs.Tests.{is_hold};
 ghost use Rattle.driver_calls.specs.declared.faults.AttachFault.TheVariants.{Refused, Memory};
+ghost use Rattle.driver_calls.specs.declared.fates.LentFate.TheVariants.{Left};
+ghost use Rattle.driver_calls.specs.Rooms.{CanCount};
+ghost use Rattle.driver_views.specs.States.{called_for};
 ghost use Rattle.driver_calls.specs.Filters.{MayHandle, IsHandled, MayComplete, IsCompleted, Refuses};
 ghost use Rattle.frame_filters.specs.Filters.{new_filter};
 ghost use Rattle.frame_filters.specs.States.{plain_state};
@@ -12,7 +15,7 @@ use crate::counts::{is_empty, not_called, risen};
 use crate::homes::pass_home;
 use crate::parts::Plain;
 use buffer_pools::BufferList;
-use driver_calls::AttachFault;
+use driver_calls::{AttachFault, LentFate};
 use driver_tray::Tray;
 use journal_types::Setup;
 use ndis_base::{FilterKind, ListStatus};
@@ -80,6 +83,16 @@ impl Plain {
     {
         self.served.returned += 1;
         pass_home(list, status, tray);
+    }
+
+    /// Counts a list that is lent to it, and leaves it as it is.
+    pub(crate) fn receive_lent(&mut self) -> LentFate
+        requires { CanCount called.ReceiveLent self.old.served }
+        ensures counted { plain_state self.new ≡ record (plain_state self.old) { did = called_for called.ReceiveLent (plain_state self.old).did } }
+        ensures leaves { result ≡ Left }
+    {
+        self.served.receive_lent += 1;
+        LentFate::Left
     }
 
     pub(crate) fn detach(&mut self)

@@ -1,5 +1,5 @@
 //! Frames as programs leave them.
-ghost use Rattle.std.specs.Prelude.{◌≡◌, ◌≤◌, [], OnOk, All, vec_len};
+ghost use Rattle.std.specs.Prelude.{◌≡◌, ◌≢◌, ◌≤◌, [], OnOk, All, vec_len};
 ghost use Rattle.program_types.specs.Apply.{applied};
 ghost use Rattle.hand_lemmas.specs.Frames.{AreSized};
 ghost use Rattle.frame_programs.specs.Judged.{Leaves};
@@ -95,7 +95,8 @@ impl MadeFrames {
     pub fn apply(&mut self, program: &Program, list: &BufferList) -> Verdict
         requires room { 1 ≤ self.old.room }
         requires sized { AreSized list.now.frames }
-        ensures { Leaves result (applied 1518 program.now list.now.frames) list.now.frames self.new.frames }
+        ensures leaves { Leaves result (applied 1518 program.now list.now.frames) list.now.frames self.new.frames }
+        ensures room { result ≢ Verdict.Changed → self.new.room ≡ self.old.room }
     {
         match judge(program, list, &mut self.spaces) {
             Verdict::Same => Verdict::Same,

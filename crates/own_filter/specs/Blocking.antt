@@ -9,6 +9,8 @@ use Rattle.program_types.specs.declared.Rule.{Rule}
 use Rattle.program_types.specs.Apply.{pair_at}
 use Rattle.journal_types.specs.declared.Setup.{Setup}
 use Rattle.buffer_pools.specs.Views.{ListView}
+use Rattle.driver_calls.specs.declared.fates.LentFate.{LentFate}
+use Rattle.driver_calls.specs.declared.fates.LentFate.TheVariants as fate
 use Rattle.driver_tray.specs.Tray.{TrayView, turned_back, passed_on}
 
 -- the rule drops frames of this EtherType
@@ -33,3 +35,7 @@ carries n (frame ∷ frames) = pair_at frame 12 == n || carries n frames
 -- the list is turned back as Dropped, or passed on
 abbrev pub blocked : ℕ → ListView → TrayView → TrayView
 blocked n l t = if carries n l.frames then turned_back t l Dropped else passed_on t l
+
+-- a list that is lent is dropped, or left
+abbrev pub lent : ℕ → List (List ℕ) → LentFate
+lent n frames = if carries n frames then fate.Dropped else fate.Left

@@ -5,6 +5,7 @@ ghost use Rattle.own_filter.specs.Blocking as form;
 
 use crate::counts::ethertype_of;
 use buffer_pools::BufferList;
+use driver_calls::LentFate;
 use driver_tray::Tray;
 use journal_types::Setup;
 use ndis_base::ListStatus;
@@ -62,5 +63,17 @@ pub(crate) fn block(ethertype: u16, list: BufferList, tray: &mut Tray)
         tray.turn_back(list, ListStatus::Dropped);
     } else {
         tray.forward(list);
+    }
+}
+
+/// What becomes of a lent list: it is dropped where a frame of it has this EtherType, and left else.
+pub(crate) fn lent(ethertype: u16, list: &BufferList) -> LentFate
+    requires { AreSized list.now.frames }
+    ensures { result ≡ form.lent ethertype list.now.frames }
+{
+    if carries(ethertype, list) {
+        LentFate::Dropped
+    } else {
+        LentFate::Left
     }
 }

@@ -6,18 +6,18 @@ ghost use Rattle.promise_rules.specs.declared.Called.TheVariants as called;
 ghost use Rattle.buffer_pools.specs.Views.{IsOf};
 ghost use Rattle.driver_calls.specs.declared.faults.AttachFault.TheVariants.{Refused};
 ghost use Rattle.driver_calls.specs.Rooms.{HasRoomFor};
-ghost use Rattle.driver_calls.specs.Filters.{MayHandle, IsHandled, Completes, Refuses};
+ghost use Rattle.driver_calls.specs.Filters.{MayHandle, IsHandled, IsLentTo, Completes, Refuses};
 ghost use Rattle.frame_filters.specs.Filters.{new_filter, keeping};
 ghost use Rattle.own_filter.specs.Blocking.{is_blocking};
 ghost use Rattle.own_filter.specs.Counting.{counted_list};
 ghost use Rattle.own_filter.specs.States.{state_of};
 
-use crate::blocking::{block, is_blocking};
+use crate::blocking::{block, is_blocking, lent};
 use crate::board::Board;
 use crate::counts::Counts;
 use crate::parts::EtherTypeFilter;
 use buffer_pools::BufferList;
-use driver_calls::{AttachFault, FilterDriver};
+use driver_calls::{AttachFault, FilterDriver, LentFate};
 use driver_tray::Tray;
 use driver_views::Served;
 use frame_filters::{not_called, risen};
@@ -119,6 +119,17 @@ impl FilterDriver for EtherTypeFilter {
         self.served.receive += 1;
         self.seen.add_list(&list);
         block(self.blocked, list, tray);
+    }
+
+    /// It leaves a lent list or drops it, and never copies one.
+    fn receive_lent(&mut self, list: &BufferList, tray: &mut Tray) -> LentFate
+        requires may { MayHandle called.ReceiveLent direction.Lent (state_of self.old) list.now tray.old }
+        ensures lent { IsLentTo (state_of self.old) list.now tray.old result (state_of self.new) tray.new }
+        ensures seen { self.new.seen ≡ counted_list list.now.frames self.old.seen }
+    {
+        self.served.receive_lent += 1;
+        self.seen.add_list(list);
+        lent(self.blocked, list)
     }
 
     fn returned(&mut self, list: BufferList, status: ListStatus, tray: &mut Tray) {

@@ -5,14 +5,15 @@ ghost use Rattle.promise_rules.specs.declared.Called.TheVariants as called;
 ghost use Rattle.stack_rules.specs.Tests.{is_hold};
 ghost use Rattle.hand_lemmas.specs.Frames.{AreSized};
 ghost use Rattle.driver_calls.specs.Rooms.{HasRoomForNew};
-ghost use Rattle.driver_calls.specs.Filters.{MayHandle, IsHandled, MayComplete, IsCompleted, Refuses};
+ghost use Rattle.driver_calls.specs.Filters.{MayHandle, IsHandled, MayComplete, IsCompleted, IsLentTo, Refuses};
 ghost use Rattle.frame_filters.specs.Filters.{new_filter};
 ghost use Rattle.rule_filters.specs.States.{programmed_state, room_of};
 ghost use Rattle.rule_filters.specs.Changes.{HandlesList};
 
-use crate::handling::handle;
+use crate::handling::{handle, handle_lent};
 use crate::parts::Programmed;
 use buffer_pools::BufferList;
+use driver_calls::LentFate;
 use driver_tray::Tray;
 use frame_filters::{not_called, risen, take_home};
 use frame_programs::MadeFrames;
@@ -106,6 +107,19 @@ impl Programmed {
     {
         self.served.receive += 1;
         self.handle(list, tray);
+    }
+
+    pub(crate) fn receive_lent(&mut self, list: &BufferList, tray: &mut Tray) -> LentFate
+        requires may { MayHandle called.ReceiveLent direction.Lent (programmed_state self.old) list.now tray.old }
+        requires room { 1 ≤ room_of self.old }
+        ensures lent { IsLentTo (programmed_state self.old) list.now tray.old result (programmed_state self.new) tray.new }
+        ensures room { result ≡ LentFate.Left → room_of self.old ≤ room_of self.new }
+    {
+        self.served.receive_lent += 1;
+        match &self.setup {
+            Some(setup) => handle_lent(setup, &mut self.made, list, tray),
+            None => unreachable!(),
+        }
     }
 
     pub(crate) fn returned(&mut self, list: BufferList, status: ListStatus, tray: &mut Tray)

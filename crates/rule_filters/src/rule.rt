@@ -6,7 +6,7 @@ ghost use Rattle.rule_filters.specs.States.{programmed_state, room_of};
 
 use crate::parts::Programmed;
 use buffer_pools::BufferList;
-use driver_calls::{AttachFault, FilterDriver};
+use driver_calls::{AttachFault, FilterDriver, LentFate};
 use driver_tray::Tray;
 use driver_views::Served;
 use journal_types::Setup;
@@ -75,6 +75,10 @@ impl FilterDriver for RuleFilter {
 
     fn receive(&mut self, list: BufferList, tray: &mut Tray) {
         self.core.receive(list, tray);
+    }
+
+    fn receive_lent(&mut self, list: &BufferList, tray: &mut Tray) -> LentFate {
+        self.core.receive_lent(list, tray)
     }
 
     fn returned(&mut self, list: BufferList, status: ListStatus, tray: &mut Tray) {

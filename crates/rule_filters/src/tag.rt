@@ -10,7 +10,7 @@ ghost use Rattle.rule_filters.specs.Tagging.{is_tagging};
 use crate::parts::Programmed;
 use crate::tagging::is_tagging;
 use buffer_pools::BufferList;
-use driver_calls::{AttachFault, FilterDriver};
+use driver_calls::{AttachFault, FilterDriver, LentFate};
 use driver_tray::Tray;
 use driver_views::Served;
 use journal_types::Setup;
@@ -87,6 +87,10 @@ impl FilterDriver for TagFilter {
 
     fn receive(&mut self, list: BufferList, tray: &mut Tray) {
         self.core.receive(list, tray);
+    }
+
+    fn receive_lent(&mut self, list: &BufferList, tray: &mut Tray) -> LentFate {
+        self.core.receive_lent(list, tray)
     }
 
     fn returned(&mut self, list: BufferList, status: ListStatus, tray: &mut Tray) {

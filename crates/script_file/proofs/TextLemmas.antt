@@ -9,7 +9,7 @@ use Rattle.script_types.specs.declared.ScriptPlace.TheVariants as place
 use Rattle.script_types.specs.declared.ScriptFault.{ScriptFault}
 use Rattle.script_types.specs.declared.ScriptFault.TheVariants as fault
 use Rattle.script_forms.specs.Results.{GivesAtPlace}
-use Rattle.script_forms.specs.Script.{IsTextOf, Says, too_long, not_json, json, script_in}
+use Rattle.script_forms.specs.Script.{too_long, not_json, json, script_in}
 use Rattle.script_file.specs.Reads.{ReadsAs}
 
 pub says-long : (bytes : List ℕ) → 4194304 < length bytes → ReadsAs bytes (Err (fault.Bad place.Whole cause.TooLong))

@@ -16,7 +16,7 @@ use std::alloc::Global;
 
 /// Whether a script can be run: one stack of an adapter with a ring, of 1 to 8 protocols that
 /// log, retain or echo, and of at most 16 filters that don't classify; and calls of the script's lanes
-/// that send, indicate, give back, cancel, transmit, pump, drain, pause, restart, or change the filters by such.
+/// that send, indicate, lend, give back, cancel, transmit, pump, drain, pause, restart, or change the filters by such.
 pub fn is_built(script: &Script) -> bool
     ensures { result ≡ form.is_built script.now }
 {
@@ -153,7 +153,7 @@ fn is_asked_kind(stack: &StackSetup, kind: &CallKind) -> bool
                 && is_cancel(*cancel)
                 && are_frames(frames.items())
         }
-        CallKind::Indicate { frames } => are_frames(frames.items()),
+        CallKind::Indicate { frames } | CallKind::Lend { frames } => are_frames(frames.items()),
         CallKind::GiveBack { binding, list } => {
             (*binding as usize) < stack.bindings.items().len() && is_list(*list)
         }

@@ -54,6 +54,7 @@ follows_shelf old new (event.Remove filter) answer worked d moves = moves
 follows_shelf old new (event.Replace filter kind setup) answer worked d moves = moves
 follows_shelf old new (event.Send binding cancel frames) answer worked d moves = stays old new (event.Send binding cancel frames) answer refl d d.still
 follows_shelf old new (event.Indicate frames) answer worked d moves = stays old new (event.Indicate frames) answer refl d d.still
+follows_shelf old new (event.Lend frames) answer worked d moves = stays old new (event.Lend frames) answer refl d d.still
 follows_shelf old new (event.GiveBack binding list) answer worked d moves = stays old new (event.GiveBack binding list) answer refl d d.still
 follows_shelf old new (event.Cancel id) answer worked d moves = stays old new (event.Cancel id) answer refl d d.still
 follows_shelf old new event.Transmit answer worked d moves = stays old new event.Transmit answer refl d d.still

@@ -21,6 +21,7 @@ IsWorked (event.Remove filter) = Unit {0}
 IsWorked (event.Replace filter kind setup) = Unit {0}
 IsWorked (event.Send binding cancel frames) = Unit {0}
 IsWorked (event.Indicate frames) = Unit {0}
+IsWorked (event.Lend frames) = Unit {0}
 IsWorked (event.GiveBack binding list) = Unit {0}
 IsWorked (event.Cancel id) = Unit {0}
 IsWorked event.Transmit = Unit {0}

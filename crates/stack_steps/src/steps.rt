@@ -23,6 +23,7 @@ use flat_journal::{FlatEvent, FlatReply};
 use frame_arena::FrameSpan;
 use halt_work::halt;
 use journal_types::{Asked, Event};
+use lend_work::lend;
 use miniport_work::works::transmit;
 use ndis_base::{ListNo, OutOfMemory, Phase};
 use pause_work::pause_next;
@@ -113,6 +114,28 @@ fn indicate_frames<M: MiniportCalls, P: ProtocolCalls, F: FilterCalls>(
     indicate(book, frames.items(), span)
 }
 
+/// The miniport lends the frames of an event, which the journal has at `span`.
+fn lend_frames<M: MiniportCalls, P: ProtocolCalls, F: FilterCalls>(
+    book: &mut BookParts<M, P, F>,
+    event: &Event,
+    span: FrameSpan,
+) -> Result<FlatReply, OutOfMemory>
+    requires book { IsBook (view_of M.state P.state F.state book.old) }
+    requires idle { IsIdle (view_of M.state P.state F.state book.old) }
+    requires lends { event.now ≡ events.Lend (frames_at (view_of M.state P.state F.state book.old).tray.payloads.frames span) }
+    requires may { may_ask (view_of M.state P.state F.state book.old).tray.head event.now ≡ true }
+    requires within { SpanWithin (view_of M.state P.state F.state book.old).tray.payloads.frames span }
+    ensures did { IfOk result (λ r. DidEvent (view_of M.state P.state F.state book.old) (view_of M.state P.state F.state book.new) event.now (reply_of (view_of M.state P.state F.state book.new).tray.payloads r)) }
+    ensures within { IfOk result (λ r. ReplyWithin (view_of M.state P.state F.state book.new).tray.payloads r) }
+    ensures turn { OnOk result (CanEnd (view_of M.state P.state F.state book.new)) }
+    ensures memory { OnErr result (IsUnmoved (view_of M.state P.state F.state book.old) (view_of M.state P.state F.state book.new)) }
+{
+    let Event::Lend { frames } = event else {
+        unreachable!()
+    };
+    lend(book, frames.items(), span)
+}
+
 /// A drain: a list on its way is worked, and where there is none, the first module from the top that keeps a ready
 /// list gives it away.
 fn drain<M: MiniportCalls, P: ProtocolCalls, F: FilterCalls>(
@@ -175,6 +198,7 @@ fn work<M: MiniportCalls, P: ProtocolCalls, F: FilterCalls>(
             frames,
         } => send_frames(book, event, binding, cancel, frames),
         FlatEvent::Indicate { frames } => indicate_frames(book, event, frames),
+        FlatEvent::Lend { frames } => lend_frames(book, event, frames),
         FlatEvent::GiveBack { binding, list } => give_back(book, binding, list),
         FlatEvent::Cancel { id } => cancel(book, id),
         FlatEvent::Transmit => transmit_oldest(book),

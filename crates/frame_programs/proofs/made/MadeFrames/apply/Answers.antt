@@ -16,8 +16,8 @@ wrap-requires-clause-short c =
     ap (λ (many : ℕ). written c.judge.new.spaces.items many) (sym c.buffers.ensures.count) ∙ ap (λ (xs : List Space). written xs c.buffers.result) (sym c.deref.ensures.value) in
     subst (All (λ (f : List ℕ). length f ≤ 1518)) same (short_frames _ made.sized)
 
-pub returns-in-Changed : goal.returns-in-Changed
-returns-in-Changed c =
+pub returns-in-Changed-clause-leaves : goal.returns-in-Changed-clause-leaves
+returns-in-Changed-clause-leaves c =
     let frames = c.args.list.now.frames in
     let made : IsMadeOf (applied 1518 c.args.program.now frames) frames (written c.judge.new.spaces.items (length frames)) =
     is_made_of c.args.program.now frames (written c.judge.new.spaces.items (length frames)) (subst AreAddressed c.rules.ensures c.tell_addresses.ensures) c.requires.sized c.in-Changed.ensures.verdict in

@@ -1,0 +1,13 @@
+pub mod Placed
+pub mod Meeting
+pub mod Climbing
+pub mod Arriving
+pub mod Carrying
+pub mod Along
+pub mod Copying
+pub mod Given
+pub mod Readied
+pub mod Visited
+pub mod Delivered
+pub mod Ended
+pub mod Lending

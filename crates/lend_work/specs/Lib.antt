@@ -1,0 +1,4 @@
+pub mod Visits
+pub mod Climbs
+pub mod Bindings
+pub mod Lends

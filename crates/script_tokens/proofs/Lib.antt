@@ -1,0 +1,4 @@
+pub mod Lists
+pub mod Sent
+pub mod Ends
+pub mod Table
