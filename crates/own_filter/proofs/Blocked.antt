@@ -15,10 +15,13 @@ use Rattle.stack_rules.specs.Handled.{program}
 use Rattle.buffer_pools.specs.Views.{ListView}
 use Rattle.driver_views.specs.States.{FilterState}
 use Rattle.driver_tray.specs.Tray.{TrayView, turned_back, passed_on}
-use Rattle.driver_calls.specs.Filters.{made_by, Handles}
+use Rattle.driver_calls.specs.Filters.{made_by, Handles, HandlesLent}
 use Rattle.driver_calls.specs.Filters.Handles.{drops, passes}
+use Rattle.driver_calls.specs.Filters.HandlesLent.{leaves, drops as drops_lent}
+use Rattle.driver_calls.specs.declared.fates.LentFate.{LentFate}
+use Rattle.driver_calls.specs.declared.fates.LentFate.TheVariants as fate
 use Rattle.frame_filters.proofs.Passing.{same_itself}
-use Rattle.own_filter.specs.Blocking.{is_drop, is_only_drop, is_blocking, carries, blocked}
+use Rattle.own_filter.specs.Blocking.{is_drop, is_only_drop, is_blocking, carries, blocked, lent}
 
 -- the rule
 abbrev pub drop_rule : ℕ → Rule
@@ -81,9 +84,6 @@ applied_drop max n (f ∷ fs) = ap (onto (apply max (drop_rule n ∷ []) f)) (ap
     step false true f fs made h = rw h refl
     step false false f fs made h = rw h refl
 
-pub made_is : (n : ℕ) (p : Setup) (l : ListView) (t : TrayView) → is_blocking n p ≡ true → made_by p l t ≡ (if carries n l.frames then None else Some l.frames)
-made_is n p l t h = rw (program_is n p l.label.direction h) (applied_drop 1518 n l.frames)
-
 -- so the list is turned back, or goes on
 pub blocks : (n : ℕ) (s : FilterState) (p : Setup) (l : ListView) (t t' : TrayView) → is_blocking n p ≡ true → t' ≡ blocked n l t → Handles s p l t s.kept t'
 blocks n s p l t t' h w = by (carries n l.frames) made w
@@ -94,3 +94,14 @@ blocks n s p l t t' h w = by (carries n l.frames) made w
     by : (b : Bool) → made_by p l t ≡ (if b then None else Some l.frames) → t' ≡ (if b then turned_back t l Dropped else passed_on t l) → Handles s p l t s.kept t'
     by true m w = drops m refl w
     by false m w = passes l.frames m (same_itself l.frames) refl w
+
+-- and a lent list is dropped, or left
+pub lends : (n : ℕ) (p : Setup) (l : ListView) (t : TrayView) (became : LentFate) → is_blocking n p ≡ true → became ≡ lent n l.frames → HandlesLent p l t t became
+lends n p l t became h w = rw w (by (carries n l.frames) made)
+  where
+    made : made_by p l t ≡ (if carries n l.frames then None else Some l.frames)
+    made = rw (program_is n p l.label.direction h) (applied_drop 1518 n l.frames)
+
+    by : (b : Bool) → made_by p l t ≡ (if b then None else Some l.frames) → HandlesLent p l t t (if b then fate.Dropped else fate.Left)
+    by true m = drops_lent m refl
+    by false m = leaves l.frames m (same_itself l.frames) refl

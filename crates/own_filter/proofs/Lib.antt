@@ -1,2 +1,1 @@
 pub mod Blocked
-mod Lent

@@ -32,10 +32,10 @@ abbrev pub carries : ℕ → List (List ℕ) → Bool
 carries n [] = false
 carries n (frame ∷ frames) = pair_at frame 12 == n || carries n frames
 
--- a list that is lent is dropped, or left as it is
-abbrev pub lent_fate : ℕ → List (List ℕ) → LentFate
-lent_fate n frames = if carries n frames then fate.Dropped else fate.Left
-
 -- the list is turned back as Dropped, or passed on
 abbrev pub blocked : ℕ → ListView → TrayView → TrayView
 blocked n l t = if carries n l.frames then turned_back t l Dropped else passed_on t l
+
+-- a list that is lent is dropped, or left
+abbrev pub lent : ℕ → List (List ℕ) → LentFate
+lent n frames = if carries n frames then fate.Dropped else fate.Left

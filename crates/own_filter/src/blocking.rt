@@ -66,10 +66,10 @@ pub(crate) fn block(ethertype: u16, list: BufferList, tray: &mut Tray)
     }
 }
 
-/// A list that is lent is dropped where a frame of it has this EtherType, and left as it is otherwise.
-pub(crate) fn lent_fate(ethertype: u16, list: &BufferList) -> LentFate
+/// What becomes of a lent list: it is dropped where a frame of it has this EtherType, and left else.
+pub(crate) fn lent(ethertype: u16, list: &BufferList) -> LentFate
     requires { AreSized list.now.frames }
-    ensures { result ≡ form.lent_fate ethertype list.now.frames }
+    ensures { result ≡ form.lent ethertype list.now.frames }
 {
     if carries(ethertype, list) {
         LentFate::Dropped

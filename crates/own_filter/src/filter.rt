@@ -6,13 +6,13 @@ ghost use Rattle.promise_rules.specs.declared.Called.TheVariants as called;
 ghost use Rattle.buffer_pools.specs.Views.{IsOf};
 ghost use Rattle.driver_calls.specs.declared.faults.AttachFault.TheVariants.{Refused};
 ghost use Rattle.driver_calls.specs.Rooms.{HasRoomFor};
-ghost use Rattle.driver_calls.specs.Filters.{MayHandle, IsHandled, Completes, Refuses};
+ghost use Rattle.driver_calls.specs.Filters.{MayHandle, IsHandled, IsLentTo, Completes, Refuses};
 ghost use Rattle.frame_filters.specs.Filters.{new_filter, keeping};
 ghost use Rattle.own_filter.specs.Blocking.{is_blocking};
 ghost use Rattle.own_filter.specs.Counting.{counted_list};
 ghost use Rattle.own_filter.specs.States.{state_of};
 
-use crate::blocking::{block, is_blocking, lent_fate};
+use crate::blocking::{block, is_blocking, lent};
 use crate::board::Board;
 use crate::counts::Counts;
 use crate::parts::EtherTypeFilter;
@@ -121,10 +121,15 @@ impl FilterDriver for EtherTypeFilter {
         block(self.blocked, list, tray);
     }
 
-    fn receive_lent(&mut self, list: &BufferList, _tray: &mut Tray) -> LentFate {
+    /// It leaves a lent list or drops it, and never copies one.
+    fn receive_lent(&mut self, list: &BufferList, tray: &mut Tray) -> LentFate
+        requires may { MayHandle called.ReceiveLent direction.Lent (state_of self.old) list.now tray.old }
+        ensures lent { IsLentTo (state_of self.old) list.now tray.old result (state_of self.new) tray.new }
+        ensures seen { self.new.seen ≡ counted_list list.now.frames self.old.seen }
+    {
         self.served.receive_lent += 1;
         self.seen.add_list(list);
-        lent_fate(self.blocked, list)
+        lent(self.blocked, list)
     }
 
     fn returned(&mut self, list: BufferList, status: ListStatus, tray: &mut Tray) {
