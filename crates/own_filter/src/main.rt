@@ -12,7 +12,9 @@ use crate::board::Board;
 use crate::parts::EtherTypeFilter;
 use binding_protocols::{LogProtocol, RetainProtocol};
 use book_opening::StackDrivers;
-use driver_calls::{FilterDriver, MiniportDriver, ProtocolDriver};
+use driver_calls::{
+    FilterCalls, FilterDriver, MiniportCalls, MiniportDriver, ProtocolCalls, ProtocolDriver,
+};
 use ndis_base::OutOfMemory;
 use ndis_cli::{Status, ndis_serial};
 use outside_io::{MemorySource, Sink, StdSink};
@@ -24,6 +26,27 @@ use std::{fs, io};
 
 /// The EtherType of ARP (IEEE 802 Numbers).
 const ARP: u16 = 0x0806;
+
+/// Calls over these drivers, once they rest.
+fn run_over<K: Sink, M: MiniportCalls, P: ProtocolCalls, F: FilterCalls>(
+    alloc: Global,
+    miniports: Vec<M>,
+    protocols: Vec<P>,
+    shelf: Vec<F>,
+    script: Vec<u8>,
+    sink: &mut K,
+) -> Result<Status, OutOfMemory> {
+    let mut parts = Vec::with_capacity(alloc, 1)?;
+    parts.push(StackDrivers {
+        miniports: rested_miniports(alloc, miniports)?,
+        protocols: rested_protocols(alloc, protocols)?,
+        shelf: rested_filters(alloc, shelf)?,
+    })?;
+    let mut words = Vec::with_capacity(alloc, 1)?;
+    words.push(String::from_str(alloc, "replay")?)?;
+    let mut source = MemorySource::make(script, Vec::new(alloc));
+    Ok(ndis_serial(alloc, words.as_slice(), &mut source, sink, &mut parts))
+}
 
 /// Boxes a loop adapter, two protocols and the filter, and calls over them. They are made here, since a
 /// function that makes boxed drivers doesn't hand them out.
@@ -40,16 +63,7 @@ fn run<K: Sink>(
     protocols.push(Box::new(alloc, LogProtocol::make(alloc)?)?)?;
     protocols.push(Box::new(alloc, RetainProtocol::make(alloc)?)?)?;
     shelf.push(Box::new(alloc, EtherTypeFilter::make(ARP, board))?)?;
-    let mut parts = Vec::with_capacity(alloc, 1)?;
-    parts.push(StackDrivers {
-        miniports: rested_miniports(alloc, miniports)?,
-        protocols: rested_protocols(alloc, protocols)?,
-        shelf: rested_filters(alloc, shelf)?,
-    })?;
-    let mut words = Vec::with_capacity(alloc, 1)?;
-    words.push(String::from_str(alloc, "replay")?)?;
-    let mut source = MemorySource::make(script, Vec::new(alloc));
-    Ok(ndis_serial(alloc, words.as_slice(), &mut source, sink, &mut parts))
+    run_over(alloc, miniports, protocols, shelf, script, sink)
 }
 
 fn main(rt: HostRuntime) -> io::Result<()> {
