@@ -194,7 +194,7 @@ python3 bench/scripts.py sends 16384 1 14 >"$room/refused"
 if is_proved; then
     edge 'a long report' 0 '' '$ndis replay <"$room/sends" >"$room/long" && [ "$(grep -c " call 0 send b0 " "$room/long")" = 165 ] && cat "$report"'
     edge 'a long report, of which one line is read' 4 'write fault' '$ndis replay <"$room/sends" | head -n 1 >/dev/null; exit "${PIPESTATUS[0]}"'
-    edge 'too little memory' 5 'out of memory' 'ulimit -v 20000; $ndis replay <"$room/refused"'
+    edge 'too little memory' 5 'out of memory' 'ulimit -v 10000; $ndis replay <"$room/refused"'
 else
     edge 'a long report' 4 'ndis: an unproved program prints at most 1 MiB, and this report is longer; ./build-ndis builds the proved one' '$ndis replay <"$room/sends"'
 fi
