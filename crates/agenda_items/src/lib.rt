@@ -1,15 +1,16 @@
 //! What is on its way in a stack: lists, statuses and answers, in one queue.
 #![tactic(auto)]
 
-ghost use Rattle.std.specs.Prelude.{◌≡◌, ◌+◌, ◌<◌, ◌≤◌, ◌++◌, ◌∷◌, [], ◌*◌, None, Some};
+ghost use Rattle.std.specs.Prelude.{◌≡◌, ◌+◌, ◌<◌, ◌≤◌, ◌++◌, ◌∷◌, [], ◌*◌, None, Some, not, filter};
 ghost use Rattle.std.specs.VecDeque.{deque_capacity, deque_len};
 ghost use Rattle.agenda_items.specs.declared.Carried.TheVariants as carried;
 ghost use Rattle.agenda_items.specs.declared.Carried.{Carried};
 ghost use Rattle.agenda_items.specs.declared.Item.{Item};
-ghost use Rattle.agenda_items.specs.Views.{kept_as};
+ghost use Rattle.agenda_items.specs.Views.{kept_as, carries_status, carries_answer};
 
 use buffer_pools::{BufferList, KeptList};
 use journal_types::{PassWay, Target};
+use ndis_base::{OidNo, StatusNo};
 use stack_rules::{Answered, StatusAway};
 use std::collections::VecDeque;
 
@@ -68,4 +69,60 @@ pub fn dequeue(queue: &mut VecDeque<Carried>) -> Option<Item>
         Some(Carried::Answer(answer)) => Some(Item::Answer(answer)),
         None => None,
     }
+}
+
+/// Puts a status behind what is on its way.
+pub fn enqueue_status(queue: &mut VecDeque<Carried>, status: StatusAway)
+    requires { deque_len queue.old < deque_capacity queue.old }
+    ensures items { queue.new.items ≡ queue.old.items ++ carried.Status status ∷ [] }
+    ensures len { deque_len queue.new ≡ deque_len queue.old + 1 }
+    ensures capacity { deque_capacity queue.new ≡ deque_capacity queue.old }
+{
+    queue.push_back_reserved(Carried::Status(status));
+}
+
+/// Puts an answer behind what is on its way.
+pub fn enqueue_answer(queue: &mut VecDeque<Carried>, answer: Answered)
+    requires { deque_len queue.old < deque_capacity queue.old }
+    ensures items { queue.new.items ≡ queue.old.items ++ carried.Answer answer ∷ [] }
+    ensures len { deque_len queue.new ≡ deque_len queue.old + 1 }
+    ensures capacity { deque_capacity queue.new ≡ deque_capacity queue.old }
+{
+    queue.push_back_reserved(Carried::Answer(answer));
+}
+
+fn carries_status(number: StatusNo, carried: &Carried) -> bool
+    ensures { result ≡ carries_status number.0 carried.now }
+{
+    match carried {
+        Carried::Status(status) => status.number.0 == number.0,
+        _ => false,
+    }
+}
+
+fn carries_answer(parent: OidNo, carried: &Carried) -> bool
+    ensures { result ≡ carries_answer parent.0 carried.now }
+{
+    match carried {
+        Carried::Answer(answer) => answer.parent.0 == parent.0,
+        _ => false,
+    }
+}
+
+/// Takes the status of a number from what is on its way.
+pub fn take_status(queue: &mut VecDeque<Carried>, number: StatusNo)
+    ensures items { queue.new.items ≡ filter (λ c. not (carries_status number.0 c)) queue.old.items }
+    ensures len { deque_len queue.new ≤ deque_len queue.old }
+    ensures capacity { deque_capacity queue.new ≡ deque_capacity queue.old }
+{
+    queue.retain(|carried| !carries_status(number, carried));
+}
+
+/// Takes the answer to a request from what is on its way.
+pub fn take_answer(queue: &mut VecDeque<Carried>, parent: OidNo)
+    ensures items { queue.new.items ≡ filter (λ c. not (carries_answer parent.0 c)) queue.old.items }
+    ensures len { deque_len queue.new ≤ deque_len queue.old }
+    ensures capacity { deque_capacity queue.new ≡ deque_capacity queue.old }
+{
+    queue.retain(|carried| !carries_answer(parent, carried));
 }

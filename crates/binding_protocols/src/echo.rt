@@ -12,7 +12,7 @@ use driver_log::DriverLog;
 use driver_tray::Tray;
 use driver_views::Served;
 use frame_arena::FrameSpan;
-use ndis_base::{Direction, ListNo, ListStatus, OutOfMemory, ProtocolKind};
+use ndis_base::{Direction, ListNo, ListStatus, OutOfMemory, ProtocolKind, StatusName};
 use std::alloc::Global;
 
 /// Sends the frames of a list again, where the pool has a list for them.
@@ -100,6 +100,10 @@ impl ProtocolDriver for EchoProtocol {
         self.served.receive_lent += 1;
         self.log.push(list);
         echo(list, span, tray);
+    }
+
+    fn status(&mut self, _name: StatusName) {
+        self.served.status += 1;
     }
 
     fn give_back(&mut self, _list: ListNo, _tray: &mut Tray) -> bool {

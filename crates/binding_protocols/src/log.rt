@@ -10,7 +10,7 @@ use driver_log::DriverLog;
 use driver_tray::Tray;
 use driver_views::Served;
 use frame_arena::FrameSpan;
-use ndis_base::{ListNo, ListStatus, OutOfMemory, ProtocolKind};
+use ndis_base::{ListNo, ListStatus, OutOfMemory, ProtocolKind, StatusName};
 use std::alloc::Global;
 
 /// A log protocol logs each list that is delivered to it and returns it at once.
@@ -74,6 +74,10 @@ impl ProtocolDriver for LogProtocol {
     fn receive_lent(&mut self, list: &BufferList, _span: FrameSpan, _tray: &mut Tray) {
         self.served.receive_lent += 1;
         self.log.push(list);
+    }
+
+    fn status(&mut self, _name: StatusName) {
+        self.served.status += 1;
     }
 
     fn give_back(&mut self, _list: ListNo, _tray: &mut Tray) -> bool {

@@ -11,7 +11,7 @@ use driver_tray::Tray;
 use driver_views::Served;
 use frame_arena::FrameSpan;
 use kept_lists::KeptLists;
-use ndis_base::{ListNo, ListStatus, OutOfMemory, ProtocolKind};
+use ndis_base::{ListNo, ListStatus, OutOfMemory, ProtocolKind, StatusName};
 use std::alloc::Global;
 
 /// A retain protocol logs each list that is delivered to it, and keeps it until it is told to give it back.
@@ -79,6 +79,10 @@ impl ProtocolDriver for RetainProtocol {
     fn receive_lent(&mut self, list: &BufferList, _span: FrameSpan, _tray: &mut Tray) {
         self.served.receive_lent += 1;
         self.log.push(list);
+    }
+
+    fn status(&mut self, _name: StatusName) {
+        self.served.status += 1;
     }
 
     fn give_back(&mut self, list: ListNo, tray: &mut Tray) -> bool {

@@ -5,14 +5,13 @@ use Rattle.std.proofs.lemmas.List.Sums.{sum_by-append}
 use Rattle.flat_journal.proofs.Grown.{grows_nothing, grows_twice}
 use Rattle.ndis_base.specs.declared.ModuleId.{ModuleId}
 use Rattle.journal_types.specs.declared.Row.{Row}
-use Rattle.journal_store.specs.Sizes.{row_bytes}
 use Rattle.stack_rules.specs.Net.{Net, after, after_rows}
 use Rattle.promise_rules.specs.Calls.{is_call_of, logged_at}
 use Rattle.rule_basics.proofs.Counts.{count_by-append}
 use Rattle.book_lemmas.specs.Views.{BookView, HeldView}
 use Rattle.driver_views.specs.States.{Record}
 use Rattle.book_lemmas.specs.Did.{calls_now, calls_in, logs_in, IsServed, Did}
-use Rattle.book_lemmas.specs.Turns.{Goes, HasUsed, row_frames, is_way}
+use Rattle.book_lemmas.specs.Turns.{Goes, HasUsed, row_frames, shown_bytes, is_way}
 use Rattle.driver_tray.specs.Tray.{TrayView}
 use Rattle.book_lemmas.proofs.Keeps.{keeps_none, keeps_then}
 
@@ -66,7 +65,7 @@ pub used_then : (a b c : TrayView) (xs ys : List Row) → HasUsed a xs b → Has
 used_then a b c xs ys g k = record {
   rows_used = omega (arith, g.rows_used, k.rows_used, length-append xs ys);
   frames = omega (arith, g.frames, k.frames, sum_by-append row_frames xs ys);
-  bytes = omega (arith, g.bytes, k.bytes, sum_by-append row_bytes xs ys);
+  bytes = omega (arith, g.bytes, k.bytes, sum_by-append shown_bytes xs ys);
   slack = omega (arith, g.slack, k.slack, count_by-append is_way xs ys);
   turns = omega (arith, g.turns, k.turns);
   payloads = grows_twice a.payloads b.payloads c.payloads g.payloads k.payloads;

@@ -7,7 +7,6 @@ use Rattle.journal_types.specs.declared.Reply.{Reply}
 use Rattle.journal_types.specs.declared.Row.{Row}
 use Rattle.journal_types.specs.declared.Row.TheVariants as row
 use Rattle.journal_types.specs.declared.Turn.{Turn}
-use Rattle.journal_store.specs.Sizes.{row_bytes}
 use Rattle.stack_rules.specs.Net.{seen, told, after_rows}
 use Rattle.stack_rules.specs.Sound.{Next}
 use Rattle.book_lemmas.specs.Views.{BookView}
@@ -16,24 +15,37 @@ use Rattle.book_lemmas.specs.Shelves.{Balks}
 use Rattle.book_lemmas.specs.Stands.{IsShelved}
 use Rattle.driver_tray.specs.Tray.{TrayView}
 
--- the frames that a row shows
+-- the frames that a row shows; the value of a request takes the room of one
 abbrev pub row_frames : Row → ℕ
 row_frames (row.Issue list owner config direction cancel origin frames) = length frames
 row_frames (row.Wire list frames) = length frames
 row_frames (row.Deliver list binding how frames) = length frames
+row_frames (row.OidIssue request parent binding kind code value) = 1
+row_frames (row.OidDone request status value) = 1
 row_frames _ = 0
 
--- a row that puts something on its way
+-- the bytes of the frames, or of the value, that a row shows
+abbrev pub shown_bytes : Row → ℕ
+shown_bytes (row.Issue list owner config direction cancel origin frames) = sum_by length frames
+shown_bytes (row.Wire list frames) = sum_by length frames
+shown_bytes (row.Deliver list binding how frames) = sum_by length frames
+shown_bytes (row.OidIssue request parent binding kind code value) = length value
+shown_bytes (row.OidDone request status value) = length value
+shown_bytes _ = 0
+
+-- a row that puts something on its way, or a request into the stack
 abbrev pub is_way : Row → Bool
 is_way (row.Pass list way to) = true
 is_way (row.Status number name to) = true
+is_way (row.OidIssue request parent binding kind code value) = true
+is_way (row.OidDone request status value) = true
 is_way _ = false
 
 -- no more room was used than the rows need, and what rows refer to was only added to
 pub record HasUsed (before : TrayView) (rows : List Row) (t : TrayView) : Type 0 where
   pub rows_used : before.room.rows ≤ t.room.rows + length rows
   pub frames : before.room.frames ≤ t.room.frames + sum_by row_frames rows
-  pub bytes : before.room.bytes ≤ t.room.bytes + sum_by row_bytes rows
+  pub bytes : before.room.bytes ≤ t.room.bytes + sum_by shown_bytes rows
   pub slack : before.slack ≤ t.slack + count_by is_way rows
   pub turns : before.room.turns ≤ t.room.turns
   pub payloads : Grows before.payloads t.payloads

@@ -14,8 +14,8 @@ use Rattle.stack_rules.specs.Places.{agenda, is_away}
 use Rattle.stack_rules.specs.Sound.{Sound}
 use Rattle.stack_rules.specs.Tests.{is_virtual}
 use Rattle.unasked_laws.specs.Unasked as unasked
-use Rattle.unasked_laws.proofs.Things.{all_are_lists, gives_none}
-use Rattle.unasked_laws.proofs.Unasked.{unasked_more, each_has_lists_only}
+use Rattle.unasked_laws.proofs.Things.{gives_none}
+use Rattle.unasked_laws.proofs.Unasked.{unasked_more, each_has_no_requests}
 use Rattle.work_laws.specs.Bounds.{is_take}
 use Rattle.agenda_items.specs.declared.Carried.{Carried}
 use Rattle.agenda_items.specs.declared.Carried.TheVariants.{List as a_list, Status as a_status, Answer as an_answer}
@@ -24,15 +24,15 @@ use Rattle.book_lemmas.specs.Turns.{AddsTurn, asked_turn}
 use Rattle.book_lemmas.specs.Views.{BookView}
 use Rattle.book_parts.specs.Events.{IsBook, IsIdle, IsUnmoved}
 use Rattle.book_parts.proofs.Ended.{idle_state}
-use Rattle.pump_work.specs.Pumps.{IsList, HasListsOnly}
+use Rattle.pump_work.specs.Pumps.{IsNoAnswer, HasNoRequests}
 use Rattle.stack_steps.specs.Steps.{IsWorked, Steps}
 use Rattle.book_runs.specs.Adds.{AddsThis}
 use Rattle.book_runs.specs.Runs.{IsBetween, Turned}
 
--- what a step works is no request, no status and no message that is taken
+-- what a step works is no request and no message that is taken
 worked_unasked : (e : Event) → IsWorked e → unasked.is_unasked e ≡ true
 worked_unasked (event.Ask binding kind code value) w = absurd w
-worked_unasked (event.Status name) w = absurd w
+worked_unasked (event.Status name) w = refl
 worked_unasked event.Initialize w = refl
 worked_unasked (event.Insert kind position setup) w = refl
 worked_unasked (event.Remove filter) w = refl
@@ -102,29 +102,31 @@ unmoved_between {old} {new} k u = record {
   untaken = subst (All Untaken) (sym u.turns) k.untaken;
 }
 
--- only lists are on their way
-away_lists : (ts : List Thing) → unasked.AreListThings ts → (q : List Carried) → map hands.carried q ≡ map hands.seen ts → All IsList q
-away_lists ts all [] e = All-nil IsList
-away_lists [] all (c ∷ q) e = cc
-away_lists (thing.List l ∷ ts) all (a_list k by to ∷ q) e = All-cons IsList (a_list k by to) q tt (away_lists ts all.1 q cc)
-away_lists (thing.List l ∷ ts) all (a_status s ∷ q) e = cc
-away_lists (thing.List l ∷ ts) all (an_answer a ∷ q) e = cc
-away_lists (thing.Status s ∷ ts) all (c ∷ q) e = absurd all.0
-away_lists (thing.Answer a ∷ ts) all (c ∷ q) e = absurd all.0
+-- no answer is on its way
+no_answers : (ts : List Thing) → unasked.AreNoAnswers ts → (q : List Carried) → map hands.carried q ≡ map hands.seen ts → All IsNoAnswer q
+no_answers ts all [] e = All-nil IsNoAnswer
+no_answers [] all (c ∷ q) e = cc
+no_answers (thing.List l ∷ ts) all (a_list k by to ∷ q) e = All-cons IsNoAnswer (a_list k by to) q tt (no_answers ts all.1 q cc)
+no_answers (thing.List l ∷ ts) all (a_status s ∷ q) e = cc
+no_answers (thing.List l ∷ ts) all (an_answer a ∷ q) e = cc
+no_answers (thing.Status s ∷ ts) all (a_list k by to ∷ q) e = cc
+no_answers (thing.Status s ∷ ts) all (a_status t ∷ q) e = All-cons IsNoAnswer (a_status t) q tt (no_answers ts all.1 q cc)
+no_answers (thing.Status s ∷ ts) all (an_answer a ∷ q) e = cc
+no_answers (thing.Answer a ∷ ts) all (c ∷ q) e = absurd all.0
 
 -- so a pump may be asked for
-pub lists_only : {v : BookView} → IsBetween v → HasListsOnly v
-lists_only {v} k =
+pub none_asked : {v : BookView} → IsBetween v → HasNoRequests v
+none_asked {v} k =
     let is : v.tray.net ≡ seen v.tray.head v.tray.turns = idle_state v k.book k.idle in
-    let only : unasked.HasListsOnly v.tray.net = subst unasked.HasListsOnly (sym is) (each_has_lists_only v.tray.head v.tray.turns k.book.follows.sound k.unasked) in
+    let none : unasked.HasNoRequests v.tray.net = subst unasked.HasNoRequests (sym is) (each_has_no_requests v.tray.head v.tray.turns k.book.follows.sound k.unasked) in
     record {
-      lists = away_lists (agenda v.tray.net) (some_lists v.tray.net.things only.things) v.tray.queue k.book.stands.agrees.queue_is;
-      requests = gives_none v.tray.net only;
+      answers = no_answers (agenda v.tray.net) (some_things v.tray.net.things none.things) v.tray.queue k.book.stands.agrees.queue_is;
+      requests = gives_none v.tray.net none;
     }
   where
-    some_lists : (ts : List Thing) → unasked.AreListThings ts → unasked.AreListThings (filter is_away ts)
-    some_lists [] all = tt
-    some_lists (thing.List l ∷ ts) all =
-        elim (is_away (thing.List l)) as (λ b. unasked.AreListThings (cond b (thing.List l ∷ filter is_away ts) (filter is_away ts))) [ true ↦ (tt, some_lists ts all.1) | false ↦ some_lists ts all.1 ]
-    some_lists (thing.Status s ∷ ts) all = absurd all.0
-    some_lists (thing.Answer a ∷ ts) all = absurd all.0
+    some_things : (ts : List Thing) → unasked.AreNoAnswers ts → unasked.AreNoAnswers (filter is_away ts)
+    some_things [] all = tt
+    some_things (thing.List l ∷ ts) all =
+        elim (is_away (thing.List l)) as (λ b. unasked.AreNoAnswers (cond b (thing.List l ∷ filter is_away ts) (filter is_away ts))) [ true ↦ (tt, some_things ts all.1) | false ↦ some_things ts all.1 ]
+    some_things (thing.Status s ∷ ts) all = (tt, some_things ts all.1)
+    some_things (thing.Answer a ∷ ts) all = absurd all.0

@@ -1,5 +1,5 @@
 -- The ending.
-use Rattle.std.proofs.Common.{◌≡◌, ◌⊎◌, inl, inr, ℕ, Some, refl, sym, ap, ◌∙◌, subst}
+use Rattle.std.proofs.Common.{◌≡◌, ◌⊎◌, inl, inr, ℕ, Some, None, refl, sym, ap, ◌∙◌, subst}
 use Rattle.ndis_base.specs.declared.Phase.{Phase}
 use Rattle.ndis_base.specs.declared.Phase.TheVariants as phase
 use Rattle.ndis_base.specs.declared.Who.TheVariants as who
@@ -11,8 +11,9 @@ use Rattle.promise_rules.specs.declared.Ending.TheVariants as ending
 use Rattle.promise_rules.specs.Own.{ending_of, ending_event, ending_after}
 use Rattle.stack_rules.specs.Net.{Net, seen}
 use Rattle.stack_rules.specs.Pauses.{halt_items}
+use Rattle.stack_rules.specs.Places.{agenda_first}
 use Rattle.unasked_laws.proofs.Things.{halt_items_none}
-use Rattle.unasked_laws.proofs.Unasked.{each_has_lists_only}
+use Rattle.unasked_laws.proofs.Unasked.{each_has_no_requests}
 use Rattle.run_laws.specs.Turns.{LeadsTo}
 use Rattle.run_laws.proofs.Ending.{halts}
 use Rattle.run_laws.proofs.Pausing.{begins}
@@ -41,9 +42,10 @@ pub record IsOver (old new : BookView) : Type 0 where
   pub now : IsInPhase new phase.Halted
   pub added : AddsTurns (EndsTo ending.Halting ending.Ended) old new
 
-pub halted_by : {old new : BookView} {r : Reply} → IsInPhase old phase.Paused → Turned old new who.Own event.Halt r → IsOver old new
-halted_by {old} {new} {r} at t =
-    let none : halt_items (seen old.tray.head old.tray.turns) ≡ 0 = halt_items_none _ (each_has_lists_only old.tray.head old.tray.turns t.sound at.between.unasked) in
+pub halted_by : {old new : BookView} {r : Reply} → IsInPhase old phase.Paused → agenda_first old.tray.net ≡ None → Turned old new who.Own event.Halt r → IsOver old new
+halted_by {old} {new} {r} at rests t =
+    let none : halt_items (seen old.tray.head old.tray.turns) ≡ 0 =
+    halt_items_none _ (each_has_no_requests old.tray.head old.tray.turns t.sound at.between.unasked) (subst (λ (n : Net). agenda_first n ≡ None) t.before rests) in
     let l : LeadsTo (seen old.tray.head old.tray.turns) t.turn reply.Halted phase.Halted =
     halts old.tray.head old.tray.turns t.turn t.sound t.bound t.next t.told.what (sym (ap (λ (n : Net). n.phase) t.before) ∙ at.phase_is) none in
     record {

@@ -1,5 +1,5 @@
 -- Pumps, and what a turn leads to.
-use Rattle.std.proofs.Common.{◌≡◌, ◌≢◌, ◌⊎◌, inl, inr, ◌<◌, ℕ, Bool, true, false, refl, sym, ap, ◌∙◌, subst}
+use Rattle.std.proofs.Common.{◌≡◌, ◌≢◌, ◌⊎◌, inl, inr, ◌<◌, ℕ, Bool, true, false, Option, Some, None, refl, sym, ap, ◌∙◌, subst}
 use Rattle.ndis_base.specs.declared.Phase.{Phase}
 use Rattle.ndis_base.specs.declared.Who.{Who}
 use Rattle.journal_types.specs.declared.Event.{Event}
@@ -9,7 +9,12 @@ use Rattle.journal_types.specs.declared.Reply.TheVariants as reply
 use Rattle.flat_journal.specs.declared.types.FlatReply.{FlatReply}
 use Rattle.flat_journal.specs.Payloads.{Payloads}
 use Rattle.flat_journal.specs.Shown.{reply_of}
+use Rattle.journal_types.specs.declared.Turn.{Turn}
+use Rattle.stack_rules.specs.declared.Thing.{Thing}
 use Rattle.stack_rules.specs.Net.{Net, seen, after_turn}
+use Rattle.stack_rules.specs.Places.{agenda_first}
+use Rattle.stack_rules.specs.Pumps.{pump_of}
+use Rattle.stack_rules.specs.Sound.{Next, outcome}
 use Rattle.stack_rules.specs.Work.{work}
 use Rattle.run_laws.specs.Pumping.{Pumps}
 use Rattle.run_laws.specs.Turns.{ChangesNothing, GoesOn}
@@ -41,6 +46,15 @@ not_yes e = cc
 not_no : false ≡ true → ⊥
 not_no e = cc
 
+-- a pump that moves nothing finds nothing on its way
+idle_first : (net : Net) (keeps : Bool) (o : Option Thing) → agenda_first net ≡ o → (pump_of net keeps o).reply ≡ reply.Idle → agenda_first net ≡ None
+idle_first net keeps None e r = e
+idle_first net keeps (Some x) e r = cc
+
+rests_by : (net : Net) (turn : Turn) → Next net turn → turn.event ≡ event.Pump → turn.reply ≡ reply.Idle → agenda_first net ≡ None
+rests_by net turn n is told =
+    idle_first net n.choice.keeps (agenda_first net) refl (sym (ap (λ e. (outcome net e n.choice).reply) is) ∙ sym n.reply ∙ told)
+
 idle_not_moved : reply.Idle ≢ reply.Moved
 idle_not_moved e = cc
 
@@ -53,6 +67,7 @@ pumped_by {old} {new} w answer moved p t a = by_law (pumps old.tray.head old.tra
         let yes : moved ≡ true = found_yes reply.Moved answer moved p a told in
         let done : Pumped w true old new = record {
           between = t.between;
+          rests = λ no. absurd (not_yes no);
           phase_is = phase_after t g.leads.phase ∙ sym (ap (λ (n : Net). n.phase) t.before);
           fewer = λ _. less_after work t g.less;
           added = subst (λ r. AddsTurns (IsOne w event.Pump r) old new) told (one_of t);
@@ -63,6 +78,7 @@ pumped_by {old} {new} w answer moved p t a = by_law (pumps old.tray.head old.tra
         let no : moved ≡ false = found_no reply.Moved answer moved p a (λ is. idle_not_moved (sym told ∙ is)) in
         let done : Pumped w false old new = record {
           between = t.between;
+          rests = λ no. ap agenda_first (t.after ∙ c.same) ∙ rests_by (net_before old) t.turn t.next t.told.what c.reply;
           phase_is = ap (λ (n : Net). n.phase) (same_after t c.same);
           fewer = λ yes. absurd (not_no yes);
           added = subst (λ r. AddsTurns (IsOne w event.Pump r) old new) told (one_of t);

@@ -1,5 +1,5 @@
 -- What holds of a book between the turns of a run, and what the parts of a run do.
-use Rattle.std.specs.Prelude.{◌≡◌, ◌≢◌, ◌⊎◌, ◌≤◌, ◌<◌, ℕ, ◌+◌, Bool, true, false, List, [], ◌∷◌, All, length}
+use Rattle.std.specs.Prelude.{◌≡◌, ◌≢◌, ◌⊎◌, ◌≤◌, ◌<◌, ℕ, ◌+◌, Bool, true, false, List, [], ◌∷◌, None, All, length}
 use Rattle.ndis_base.specs.declared.LaneNo.{LaneNo}
 use Rattle.ndis_base.specs.declared.Phase.{Phase}
 use Rattle.ndis_base.specs.declared.Phase.TheVariants as phase
@@ -20,6 +20,7 @@ use Rattle.promise_rules.specs.declared.Tail.{Tail}
 use Rattle.promise_rules.specs.Own.{ending_of}
 use Rattle.stack_rules.specs.Conditions.{is_setup}
 use Rattle.stack_rules.specs.Net.{seen, after_turn}
+use Rattle.stack_rules.specs.Places.{agenda_first}
 use Rattle.stack_rules.specs.Sound.{Next, Sound}
 use Rattle.stack_rules.specs.Tests.{is_virtual}
 use Rattle.stack_rules.specs.Work.{work}
@@ -33,7 +34,7 @@ use Rattle.book_parts.specs.Events.{IsBook, IsIdle}
 use Rattle.book_runs.specs.Adds.{AddsThis, AddsTurns, Told, IsOne, ArePauses, ArePausing, ArePumps, AreRestarts, IsCall, IsTail, OpensTo, EndsTo, pump_reply, restart_reply}
 
 -- between two turns of a run: the book stands, no turn is under way, the miniport isn't virtual, and so far nobody asked a
--- request, told a status or took a message
+-- request or took a message
 pub record IsBetween (v : BookView) : Type 0 where
   pub book : IsBook v
   pub idle : IsIdle v
@@ -58,16 +59,18 @@ pub record Turned (old new : BookView) (asker : Who) (e : Event) (answer : Reply
   pub before : old.tray.net ≡ seen old.tray.head old.tray.turns
   pub after : new.tray.net ≡ after_turn (seen old.tray.head old.tray.turns) turn
 
--- a pump: whether anything moved
+-- a pump: whether anything moved; where nothing did, nothing is on its way
 pub record Pumped (asker : Who) (moved : Bool) (old new : BookView) : Type 0 where
   pub between : IsBetween new
+  pub rests : moved ≡ false → agenda_first new.tray.net ≡ None
   pub phase_is : new.tray.net.phase ≡ old.tray.net.phase
   pub fewer : moved ≡ true → work new.tray.net < work old.tray.net
   pub added : AddsTurns (IsOne asker event.Pump (pump_reply moved)) old new
 
--- pumps until nothing moves
+-- pumps until nothing moves: nothing is on its way
 pub record PumpedAll (asker : Who) (old new : BookView) : Type 0 where
   pub between : IsBetween new
+  pub rests : agenda_first new.tray.net ≡ None
   pub phase_is : new.tray.net.phase ≡ old.tray.net.phase
   pub added : AddsTurns (ArePumps asker) old new
 
@@ -171,6 +174,7 @@ MayCall (event.Indicate frames) = Unit {0}
 MayCall (event.Lend frames) = Unit {0}
 MayCall (event.GiveBack binding list) = Unit {0}
 MayCall (event.Cancel id) = Unit {0}
+MayCall (event.Status name) = Unit {0}
 MayCall event.Transmit = Unit {0}
 MayCall event.Pump = Unit {0}
 MayCall event.Drain = Unit {0}

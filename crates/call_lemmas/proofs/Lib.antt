@@ -6,3 +6,4 @@ pub mod Miniports
 pub mod Filters
 pub mod Homewards
 pub mod Deliveries
+pub mod Statuses

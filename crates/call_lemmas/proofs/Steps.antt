@@ -18,7 +18,6 @@ use Rattle.journal_types.specs.declared.PassWay.{PassWay}
 use Rattle.journal_types.specs.declared.Target.{Target}
 use Rattle.journal_types.specs.declared.Row.{Row}
 use Rattle.journal_types.specs.declared.Row.TheVariants as row
-use Rattle.journal_store.specs.Sizes.{row_bytes}
 use Rattle.buffer_pools.specs.Views.{ListView, PoolView, IsOf, Issues, Frees}
 use Rattle.stack_rules.specs.declared.LiveList.{LiveList}
 use Rattle.stack_rules.specs.Net.{Net, Modules, after, after_rows, lists, list_of}
@@ -37,7 +36,7 @@ use Rattle.hand_lemmas.proofs.Steps.{passed_first, passed_kept, passed_loose, ke
 use Rattle.book_lemmas.specs.Did.{calls_now, calls_in, logs_in, direction_of}
 use Rattle.book_lemmas.specs.Leaves.{ArePlain}
 use Rattle.book_lemmas.specs.Stands.{IsSized, IsCarriedSized}
-use Rattle.book_lemmas.specs.Turns.{HasUsed, row_frames, is_way}
+use Rattle.book_lemmas.specs.Turns.{HasUsed, row_frames, shown_bytes, is_way}
 use Rattle.book_lemmas.proofs.Goes.{after_rows-append, calls_in-append, used_then}
 use Rattle.driver_tray.specs.Tray as tray
 use Rattle.driver_tray.specs.Tray.{TrayView}
@@ -137,12 +136,12 @@ in_still {b} {h} {m} {rows} {calls} {log} {t} {x} r t' x' i w plain now logs agr
     (in_row r [] [] t' x' i w plain now (logs m) (λ k other. logs k) agrees sized))
 
 -- how much room a row uses
-pub used_row : (t t' : TrayView) (r : Row) → t.room.rows ≤ t'.room.rows + 1 → t.room.frames ≤ t'.room.frames + row_frames r → t.room.bytes ≤ t'.room.bytes + row_bytes r
+pub used_row : (t t' : TrayView) (r : Row) → t.room.rows ≤ t'.room.rows + 1 → t.room.frames ≤ t'.room.frames + row_frames r → t.room.bytes ≤ t'.room.bytes + shown_bytes r
     → t.slack ≤ t'.slack + cond (is_way r) 1 0 → t.room.turns ≤ t'.room.turns → Grows t.payloads t'.payloads → HasUsed t (r ∷ []) t'
 used_row t t' r rows frames bytes slack turns payloads =
     let many : length (r ∷ []) ≡ 1 = refl in
     let shown = sum_by-cons row_frames r [] in
-    let long = sum_by-cons row_bytes r [] in
+    let long = sum_by-cons shown_bytes r [] in
     let ways = sum_by-cons (λ q. cond (is_way q) 1 0) r [] in
     record {
       rows_used = omega (arith, rows, many);
@@ -204,7 +203,7 @@ in_turned_back {b} {h} {m} {rows} {calls} {log} {t} {x} n status i =
     (turned_back t.net n t.caller status (hands_in h m t x) i.agrees) (same_sized i.sized refl))
 
 -- the tray that shows more frames by a row
-framed_wrote : (t : TrayView) (r : Row) (frames : List (List ℕ)) → row_frames r ≡ length frames → row_bytes r ≡ sum_by length frames → is_way r ≡ false → Wrote t r (tray.written (tray.framed t frames) r)
+framed_wrote : (t : TrayView) (r : Row) (frames : List (List ℕ)) → row_frames r ≡ length frames → shown_bytes r ≡ sum_by length frames → is_way r ≡ false → Wrote t r (tray.written (tray.framed t frames) r)
 framed_wrote t r frames many long way = record {
   net = refl;
   rows = refl;

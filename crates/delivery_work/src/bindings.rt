@@ -53,7 +53,7 @@ fn return_from(tray: &mut Tray, pool: &mut ListPool, list: BufferList)
 
 /// How many these are; None where they are 2 to the power of 32 or more, which no number of a binding
 /// tells apart.
-fn count_of(bindings: usize) -> Option<u32>
+pub fn count_of(bindings: usize) -> Option<u32>
     ensures all { IfSome result (λ many. many ≡ bindings) }
 {
     if bindings > u32::MAX as usize {

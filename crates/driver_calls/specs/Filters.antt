@@ -1,11 +1,13 @@
 -- What a filter does when it is called, in hand (WDK, "Sending Data from a Filter Driver", "Receiving Data in a Filter
 -- Driver", "Canceling a Send Request in a Filter Driver").
-use Rattle.std.specs.Prelude.{◌≡◌, ◌≢◌, ℕ, ◌==◌, ◌&&◌, not, Bool, true, false, List, [], ◌∷◌, ◌++◌, Option, Some, None, IsSome, find, filter, if◌then◌else◌}
+use Rattle.std.specs.Prelude.{◌≡◌, ◌≢◌, ℕ, ◌==◌, ◌<◌, ◌^◌, ◌&&◌, not, Bool, true, false, List, [], ◌∷◌, ◌++◌, Option, Some, None, IsSome, find, filter, if◌then◌else◌}
 use Rattle.ndis_base.specs.declared.Direction.{Direction}
 use Rattle.ndis_base.specs.declared.ListStatus.{ListStatus}
 use Rattle.ndis_base.specs.declared.ListStatus.TheVariants.{Dropped, Resources, Aborted}
 use Rattle.ndis_base.specs.declared.Origin.{Origin}
 use Rattle.ndis_base.specs.declared.Origin.TheVariants as origin
+use Rattle.ndis_base.specs.declared.StatusName.{StatusName}
+use Rattle.ndis_base.specs.declared.StatusNo.{StatusNo}
 use Rattle.program_types.specs.Apply.{applied}
 use Rattle.journal_types.specs.declared.Setup.{Setup}
 use Rattle.buffer_pools.specs.Views.{ListView, PoolView, IsOf, Issues, Frees, live_count}
@@ -18,7 +20,7 @@ use Rattle.promise_rules.specs.declared.Called.TheVariants as called
 use Rattle.agenda_items.specs.Waits.{waits_at}
 use Rattle.hand_lemmas.specs.Frames.{AreSized}
 use Rattle.driver_views.specs.States.{FilterState, IsRisen, called_for}
-use Rattle.driver_tray.specs.Tray.{TrayView, turned_back, passed_on, passed_back, noted, clone_label, cloned_on, spent, each_turned_back, each_passed_on, Copies}
+use Rattle.driver_tray.specs.Tray.{TrayView, turned_back, passed_on, passed_back, noted, clone_label, cloned_on, spent, each_turned_back, each_passed_on, Copies, indicated}
 use Rattle.driver_calls.specs.declared.fates.LentFate.{LentFate}
 use Rattle.driver_calls.specs.declared.fates.LentFate.TheVariants as fate
 use Rattle.driver_calls.specs.Rooms.{CanCount, HasRoomFor, HasRoomForNew, HasRoomForAll}
@@ -146,3 +148,15 @@ pub data HandlesLent (p : Setup) (l : ListView) (t : TrayView) (t' : TrayView) :
 pub record IsLentTo (s : FilterState) (l : ListView) (t : TrayView) (became : LentFate) (s' : FilterState) (t' : TrayView) : Type 0 where
   pub same : s' ≡ record s { did = called_for called.ReceiveLent s.did }
   pub by : (p : Setup) → s.setup ≡ Some p → HandlesLent p l t t' became
+
+-- a status may come to it
+pub record MaySee (s : FilterState) (t : TrayView) : Type 0 where
+  pub setup : IsSome s.setup
+  pub count : CanCount called.Status s.did.served
+  pub room : HasRoomFor 1 1 t
+  pub low : t.net.next.status < 2 ^ 60
+
+-- it counts the call and indicates the status further up (WDK, "Filter Module Status Indications")
+pub record IsSeenBy (s : FilterState) (number : StatusNo) (name : StatusName) (t : TrayView) (s' : FilterState) (t' : TrayView) : Type 0 where
+  pub same : s' ≡ record s { did = called_for called.Status s.did }
+  pub tray : t' ≡ indicated t number name

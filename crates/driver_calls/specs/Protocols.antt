@@ -77,3 +77,7 @@ pub record IsDrained (s : ProtocolState) (t : TrayView) (s' : ProtocolState) (t'
   pub same : s' ≡ record s { kept = s'.kept }
   pub retains : is_retain s.kind ≡ true → ReturnsAll s.kept t s'.kept t'
   pub other : is_retain s.kind ≡ false → (s' ≡ s) × (t' ≡ t)
+
+-- it counts a status that is indicated to it, and does nothing else
+pub record HearsStatus (s s' : ProtocolState) : Type 0 where
+  pub same : s' ≡ record s { did = called_for called.Status s.did }

@@ -5,7 +5,7 @@ ghost use Rattle.promise_rules.specs.declared.Called.TheVariants as called;
 ghost use Rattle.driver_views.specs.States.{FilterState};
 ghost use Rattle.driver_calls.specs.declared.fates.LentFate.TheVariants.{Left};
 ghost use Rattle.driver_calls.specs.declared.faults.AttachFault.TheVariants.{Refused, Memory};
-ghost use Rattle.driver_calls.specs.Filters.{MayHandle, IsHandled, MayComplete, IsCompleted, MayGiveAll, IsCancelled, IsDrained, MayAttach, Refuses, IsLentTo};
+ghost use Rattle.driver_calls.specs.Filters.{MayHandle, IsHandled, MayComplete, IsCompleted, MayGiveAll, IsCancelled, IsDrained, MayAttach, Refuses, IsLentTo, MaySee, IsSeenBy};
 
 use crate::fates::LentFate;
 use crate::faults::AttachFault;
@@ -13,7 +13,7 @@ use buffer_pools::BufferList;
 use driver_tray::Tray;
 use driver_views::Served;
 use journal_types::Setup;
-use ndis_base::{FilterKind, ListStatus, OutOfMemory};
+use ndis_base::{FilterKind, ListStatus, OutOfMemory, StatusName, StatusNo};
 use std::alloc::Global;
 
 /// A filter driver (WDK, "NDIS Filter Drivers"), as its author writes it.
@@ -83,6 +83,11 @@ pub trait FilterDriver: Send + Drop {
     fn returned(&mut self, list: BufferList, status: ListStatus, tray: &mut Tray)
         requires may { MayComplete called.Returned direction.Up (state self.old) list tray.old }
         ensures { IsCompleted called.Returned (state self.old) list status tray.old (state self.new) tray.new };
+
+    /// A status on its way up (WDK, "FilterStatus").
+    fn status(&mut self, number: StatusNo, name: StatusName, tray: &mut Tray)
+        requires may { MaySee (state self.old) tray.old }
+        ensures { IsSeenBy (state self.old) number name tray.old (state self.new) tray.new };
 
     /// Turns back the sends that it keeps ready under an identifier (WDK, "FilterCancelSendNetBufferLists").
     fn cancel(&mut self, id: u32, tray: &mut Tray)
@@ -176,6 +181,11 @@ pub trait FilterCalls: Drop {
         requires may { MayComplete called.Returned direction.Up (state self.old) list tray.old }
         ensures { IsCompleted called.Returned (state self.old) list status tray.old (state self.new) tray.new };
 
+    /// A status on its way up (WDK, "FilterStatus").
+    fn status(&mut self, number: StatusNo, name: StatusName, tray: &mut Tray)
+        requires may { MaySee (state self.old) tray.old }
+        ensures { IsSeenBy (state self.old) number name tray.old (state self.new) tray.new };
+
     /// Turns back the sends that it keeps ready under an identifier (WDK, "FilterCancelSendNetBufferLists").
     fn cancel(&mut self, id: u32, tray: &mut Tray)
         requires { MayGiveAll (state self.old) tray.old }
@@ -247,6 +257,10 @@ impl FilterCalls for Box<dyn FilterDriver> {
 
     fn returned(&mut self, list: BufferList, status: ListStatus, tray: &mut Tray) {
         (**self).returned(list, status, tray);
+    }
+
+    fn status(&mut self, number: StatusNo, name: StatusName, tray: &mut Tray) {
+        (**self).status(number, name, tray);
     }
 
     fn cancel(&mut self, id: u32, tray: &mut Tray) {

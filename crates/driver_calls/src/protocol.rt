@@ -3,13 +3,13 @@ ghost use Rattle.std.specs.Prelude.{◌≡◌, ℕ, ◌≤◌, ◌<◌, [], true
 ghost use Rattle.promise_rules.specs.declared.Called.TheVariants as called;
 ghost use Rattle.driver_views.specs.States.{ProtocolState};
 ghost use Rattle.driver_calls.specs.Rooms.{CanCount, HasRoomFor, HasRoomForAll};
-ghost use Rattle.driver_calls.specs.Protocols.{MayOpen, IsSentHome, MayReceive, IsReceived, IsLent, IsGivenBack, IsDrained};
+ghost use Rattle.driver_calls.specs.Protocols.{MayOpen, IsSentHome, MayReceive, IsReceived, IsLent, IsGivenBack, IsDrained, HearsStatus};
 
 use buffer_pools::BufferList;
 use driver_tray::Tray;
 use driver_views::Served;
 use frame_arena::FrameSpan;
-use ndis_base::{ListNo, ListStatus, OutOfMemory, ProtocolKind};
+use ndis_base::{ListNo, ListStatus, OutOfMemory, ProtocolKind, StatusName};
 use std::alloc::Global;
 
 /// A protocol driver (WDK, "NDIS Protocol Drivers"), as its author writes it. Its log is a list of lists
@@ -64,6 +64,11 @@ pub trait ProtocolDriver: Send + Drop {
         requires may { MayReceive called.ReceiveLent (state self.old) list.now span tray.old }
         requires room { 1 ≤ room self.old }
         ensures { IsLent called.ReceiveLent (state self.old) list.now tray.old (state self.new) tray.new };
+
+    /// A status is indicated to it (WDK, "ProtocolStatusEx").
+    fn status(&mut self, name: StatusName)
+        requires { CanCount called.Status (state self.old).did.served }
+        ensures { HearsStatus (state self.old) (state self.new) };
 
     /// Passes back a list that it keeps (WDK, "NdisReturnNetBufferLists"), and answers whether it keeps it.
     fn give_back(&mut self, list: ListNo, tray: &mut Tray) -> bool
@@ -151,6 +156,11 @@ pub trait ProtocolCalls: Drop {
         requires room { 1 ≤ room self.old }
         ensures { IsLent called.ReceiveLent (state self.old) list.now tray.old (state self.new) tray.new };
 
+    /// A status is indicated to it (WDK, "ProtocolStatusEx").
+    fn status(&mut self, name: StatusName)
+        requires { CanCount called.Status (state self.old).did.served }
+        ensures { HearsStatus (state self.old) (state self.new) };
+
     /// Passes back a list that it keeps (WDK, "NdisReturnNetBufferLists"), and answers whether it keeps it.
     fn give_back(&mut self, list: ListNo, tray: &mut Tray) -> bool
         requires { HasRoomFor 1 1 tray.old }
@@ -220,6 +230,10 @@ impl ProtocolCalls for Box<dyn ProtocolDriver> {
 
     fn receive_lent(&mut self, list: &BufferList, span: FrameSpan, tray: &mut Tray) {
         (**self).receive_lent(list, span, tray);
+    }
+
+    fn status(&mut self, name: StatusName) {
+        (**self).status(name);
     }
 
     fn give_back(&mut self, list: ListNo, tray: &mut Tray) -> bool {

@@ -1,10 +1,14 @@
 -- One more row of the turn under way.
-use Rattle.std.proofs.Common.{◌≡◌, ℕ, ◌+◌, ◌-◌, ◌*◌, ◌≤◌, List, [], ◌∷◌, ◌++◌, Option, None, Some, All, length, sum_by, drop, min, refl, sym, ap, ◌∙◌, arith}
+use Rattle.std.proofs.Common.{◌≡◌, ℕ, ◌+◌, ◌-◌, ◌*◌, ◌≤◌, List, [], ◌∷◌, ◌++◌, Option, None, Some, All, length, sum_by, drop, min, refl, sym, ap, ◌∙◌, subst, arith}
 use Rattle.std.proofs.lemmas.List.{length-take, length-drop}
 use Rattle.std.proofs.lemmas.List.Elements.{All-head, All-tail}
 use Rattle.std.proofs.lemmas.List.Sums.{sum_by-cons}
 use Rattle.ndis_base.specs.declared.ModuleId.{ModuleId}
 use Rattle.ndis_base.specs.declared.ListNo.{ListNo}
+use Rattle.ndis_base.specs.declared.OidNo.{OidNo}
+use Rattle.ndis_base.specs.declared.OidStatus.{OidStatus}
+use Rattle.ndis_base.specs.declared.StatusName.{StatusName}
+use Rattle.ndis_base.specs.declared.StatusNo.{StatusNo}
 use Rattle.journal_types.specs.declared.StackHead.{StackHead}
 use Rattle.journal_types.specs.declared.Event.{Event}
 use Rattle.journal_types.specs.declared.Reply.{Reply}
@@ -29,10 +33,10 @@ use Rattle.flat_journal.specs.Shown.{row_of}
 use Rattle.flat_journal.specs.Grows.{Grows}
 use Rattle.flat_journal.proofs.Grown.{grown_by_frames, event_of_same, reply_of_same, event_within_grown, reply_within_grown}
 use Rattle.stack_rules.specs.Net.{Net, start, told, after, after_rows, after_turn, after_turns, seen}
-use Rattle.stack_ledger.specs.Bare.{LedgerView, bare, with_net, with_issued, with_wired, noted}
+use Rattle.stack_ledger.specs.Bare.{LedgerView, bare, with_net, with_issued, with_wired, with_status, with_done, noted, asked}
 use Rattle.stack_ledger.proofs.Bare.{bare_after}
 use Rattle.driver_tray.specs.declared.telling.Telling.{Telling}
-use Rattle.driver_tray.specs.Tray.{IsSteady, begun_by, ended, written, framed, issue_row, clone_issued}
+use Rattle.driver_tray.specs.Tray.{IsSteady, begun_by, ended, written, framed, issue_row, clone_issued, request_issued}
 use Rattle.driver_tray.specs.Inside.{told_of, ToldWithin, net_of, shown_of}
 
 pub after_rows-append : (net : Net) (rows : List Row) (r : Row) → after_rows net (rows ++ r ∷ []) ≡ after (after_rows net rows) r
@@ -103,6 +107,13 @@ pub journal_framed : (j k : FlatView) (frames : List (List ℕ)) → k.head ≡ 
 journal_framed j k frames h t rs p u =
     same_view k j.head j.turns j.rows (record j.payloads { frames = j.payloads.frames ++ frames }) (record j.room { frames = j.room.frames - length frames; bytes = j.room.bytes - sum_by length frames })
     h t rs p (frames_less j.room k.room (length frames) (sum_by length frames) u)
+
+-- a value takes the room of a frame
+pub value_uses : (before left : Room) (value : List ℕ) → Uses before left (record no_room { frames = 1; bytes = length value })
+    → Uses before left (record no_room { frames = length (value ∷ []); bytes = sum_by length (value ∷ []) })
+value_uses before left value u =
+    let same : length value ≡ sum_by length (value ∷ []) = omega arith in
+    subst (λ n. Uses before left (record no_room { frames = 1; bytes = n })) same u
 
 -- what was told shows as before
 pub told_framed : (j : FlatView) (t : Option Telling) (frames : List (List ℕ)) → ToldWithin j.payloads t → told_of (frames_more j frames).payloads t ≡ told_of j.payloads t
@@ -256,3 +267,40 @@ ledger_noted l k net net' r before now e =
     ∙ ap (λ n. bare (after n r)) before
     ∙ sym (bare_after net r)
     ∙ sym (ap bare e)
+
+-- and after a status
+pub ledger_status : (l k : LedgerView) (net net' : Net) (number : StatusNo) (name : StatusName) (to : Target) → l.net ≡ bare net → k ≡ with_net l (with_status number.0 l.net)
+    → net' ≡ after net (row.Status number name to) → k.net ≡ bare net'
+ledger_status l k net net' number name to before now e =
+    ap (λ v. v.net) now
+    ∙ ap (with_status number.0) before
+    ∙ sym (ap bare e)
+
+-- and after a request that is issued, or is done
+pub ledger_asked : (l k : LedgerView) (net net' : Net) (r : Row) → l.net ≡ bare net → k ≡ asked l r → net' ≡ after net r → k.net ≡ bare net'
+ledger_asked l k net net' r before now e =
+    ap (λ v. v.net) now
+    ∙ ap (λ n. bare (after n r)) before
+    ∙ sym (bare_after net r)
+    ∙ sym (ap bare e)
+
+pub ledger_done : (l k : LedgerView) (net net' : Net) (request : OidNo) (status : OidStatus) (value : List ℕ) → l.net ≡ bare net → k ≡ with_net l (with_done request status l.net)
+    → net' ≡ after net (row.OidDone request status value) → k.net ≡ bare net'
+ledger_done l k net net' request status value before now e =
+    ap (λ v. v.net) now
+    ∙ ap (with_done request status) before
+    ∙ sym (ap bare e)
+
+-- a ledger has room for as many requests as before, or for one less
+pub asks_same : (l k : LedgerView) (net : Net) (slack : ℕ) → k ≡ with_net l net → slack ≤ l.spare → slack ≤ k.spare
+asks_same l k net slack e h = rw e h
+
+pub asks_less : (l k : LedgerView) (r : Row) (slack : ℕ) → k ≡ asked l r → slack ≤ l.spare → slack - 1 ≤ k.spare
+asks_less l k r slack e h =
+    let left : k.spare ≡ l.spare - 1 = ap (λ v. v.spare) e in
+    omega (arith, h, left)
+
+-- the tray with a request that was issued
+pub shown_asked : (j k : FlatView) (t : Option Telling) (queue : List Carried) (slack : ℕ) (caller : ModuleId) (pool : PoolView) (r : Row) → k ≡ row_more j r
+    → shown_of k t queue (slack - 1) caller pool ≡ request_issued (shown_of j t queue slack caller pool) r
+shown_asked j k t queue slack caller pool r e = shown_written j k t queue (slack - 1) caller pool r e

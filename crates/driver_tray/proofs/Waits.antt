@@ -1,8 +1,14 @@
 -- The tables go on to tell what waits, whatever row is written and whatever is told.
-use Rattle.std.proofs.Common.{◌≡◌, ℕ, false, ◌-◌, ◌≤◌, List, [], ◌∷◌, ◌++◌, refl, sym, ap, ◌∙◌, subst, arith}
+use Rattle.std.proofs.Common.{◌≡◌, ℕ, false, ◌-◌, ◌≤◌, List, [], ◌∷◌, ◌++◌, Option, refl, sym, ap, ◌∙◌, subst, arith}
 use Rattle.ndis_base.specs.declared.ConfigNo.{ConfigNo}
 use Rattle.ndis_base.specs.declared.ListNo.{ListNo}
+use Rattle.ndis_base.specs.declared.ModuleId.{ModuleId}
+use Rattle.ndis_base.specs.declared.OidKind.{OidKind}
+use Rattle.ndis_base.specs.declared.OidNo.{OidNo}
+use Rattle.ndis_base.specs.declared.OidStatus.{OidStatus}
 use Rattle.ndis_base.specs.declared.Origin.{Origin}
+use Rattle.ndis_base.specs.declared.StatusName.{StatusName}
+use Rattle.ndis_base.specs.declared.StatusNo.{StatusNo}
 use Rattle.ndis_base.specs.declared.Origin.TheVariants as origin
 use Rattle.journal_types.specs.declared.Event.{Event}
 use Rattle.journal_types.specs.declared.Event.TheVariants as event
@@ -12,14 +18,15 @@ use Rattle.journal_types.specs.declared.Reply.{Reply}
 use Rattle.journal_types.specs.declared.Reply.TheVariants as reply
 use Rattle.journal_types.specs.declared.Row.TheVariants as row
 use Rattle.journal_types.specs.declared.StackHead.{StackHead}
+use Rattle.journal_types.specs.declared.Target.{Target}
 use Rattle.buffer_pools.specs.declared.label.Label.{Label}
 use Rattle.flat_journal.specs.declared.types.FlatRow.{FlatRow}
 use Rattle.flat_journal.specs.declared.types.FlatRow.TheVariants as flat_row
 use Rattle.flat_journal.specs.Payloads.{Payloads}
 use Rattle.flat_journal.specs.Shown.{row_of}
-use Rattle.stack_rules.specs.Net.{Net, start, told, after, lists}
+use Rattle.stack_rules.specs.Net.{Net, start, told, after, lists, request_of}
 use Rattle.rule_basics.specs.Live.{is_live}
-use Rattle.rule_basics.proofs.Numbered.{numbered_after, numbered_start, next_is_free, lists-without_status}
+use Rattle.rule_basics.proofs.Numbered.{numbered_after, numbered_start, next_is_free, lists-without_status, lists-status, lists-things_done}
 use Rattle.waiting_lists.specs.Waiting.{WaitView, Tells}
 use Rattle.waiting_lists.proofs.Tells.{tells_same, tells_given, tells_turned_back, tells_kept, tells_passed, tells_homed, tells_issued, with_clone}
 use Rattle.driver_tray.specs.Tray.{IsSteady, issue_row}
@@ -79,6 +86,28 @@ waits_configured net config filters w slack h = record { tells = tells_same h.te
 
 pub waits_wired : (net : Net) (list : ListNo) (frames : List (List ℕ)) (w : WaitView) (slack : ℕ) → HasWaits net w slack → HasWaits (after net (row.Wire list frames)) w slack
 waits_wired net list frames w slack h = record { tells = tells_same h.tells refl; numbered = record { apart = h.numbered.apart; below = h.numbered.below }; room = h.room }
+
+-- a status on its way
+pub waits_status : (net : Net) (number : StatusNo) (name : StatusName) (to : Target) (w : WaitView) (slack : ℕ) → HasWaits net w slack → HasWaits (after net (row.Status number name to)) w slack
+waits_status net number name to w slack h =
+    record { tells = tells_same h.tells (lists-status number.0 net.things _ refl); numbered = numbered_after net (row.Status number name to) tt h.numbered; room = h.room }
+
+-- a request that is issued, which takes room for one, is given, or is done
+pub waits_asked : (net : Net) (request : OidNo) (parent : Option OidNo) (binding : ℕ) (kind : OidKind) (code : ℕ) (value : List ℕ) (w : WaitView) (slack : ℕ) → HasWaits net w slack
+    → HasWaits (after net (row.OidIssue request parent binding kind code value)) w (slack - 1)
+waits_asked net request parent binding kind code value w slack h =
+    record { tells = tells_same h.tells refl; numbered = record { apart = h.numbered.apart; below = h.numbered.below }; room = omega (arith, h.room) }
+
+pub waits_request_given : (net : Net) (request : OidNo) (m : ModuleId) (w : WaitView) (slack : ℕ) → HasWaits net w slack → HasWaits (after net (row.OidGive request m)) w slack
+waits_request_given net request m w slack h = record { tells = tells_same h.tells refl; numbered = record { apart = h.numbered.apart; below = h.numbered.below }; room = h.room }
+
+pub waits_done : (net : Net) (request : OidNo) (status : OidStatus) (value : List ℕ) (w : WaitView) (slack : ℕ) → HasWaits net w slack → HasWaits (after net (row.OidDone request status value)) w slack
+waits_done net request status value w slack h =
+    record {
+      tells = tells_same h.tells (lists-things_done (request_of request.0 net.requests) request status value net.things);
+      numbered = numbered_after net (row.OidDone request status value) tt h.numbered;
+      room = h.room;
+    }
 
 -- what an event and its reply tell beside the rows
 pub waits_told : (net : Net) (e : Event) (r : Reply) (w : WaitView) (slack : ℕ) → HasWaits net w slack → HasWaits (told net e r) w slack

@@ -55,3 +55,4 @@ pub record IsTray (t : Inside) : Type 0 where
   pub ledger : t.ledger.net ≡ bare (net_of t.journal t.told)
   pub within : ToldWithin t.journal.payloads t.told
   pub waits : HasWaits (net_of t.journal t.told) t.waits t.slack
+  pub asks : t.slack ≤ t.ledger.spare

@@ -1,10 +1,15 @@
 -- The tray: the journal and the turn under way, the state after its rows, what is on its way, and the pool of the
 -- module that is called. A driver's calls into the stack are written into it.
-use Rattle.std.specs.Prelude.{ℕ, Bool, true, false, ◌≡◌, ◌-◌, ◌<◌, ◌^◌, List, [], ◌∷◌, ◌++◌, Option, Some, None, length, sum_by}
+use Rattle.std.specs.Prelude.{ℕ, Bool, true, false, ◌≡◌, ◌-◌, ◌<◌, ◌^◌, List, [], ◌∷◌, ◌++◌, Option, Some, None, not, filter, length, sum_by}
 use Rattle.ndis_base.specs.declared.ConfigNo.{ConfigNo}
 use Rattle.ndis_base.specs.declared.ModuleId.{ModuleId}
 use Rattle.ndis_base.specs.declared.ListNo.{ListNo}
 use Rattle.ndis_base.specs.declared.ListStatus.{ListStatus}
+use Rattle.ndis_base.specs.declared.OidKind.{OidKind}
+use Rattle.ndis_base.specs.declared.OidNo.{OidNo}
+use Rattle.ndis_base.specs.declared.OidStatus.{OidStatus}
+use Rattle.ndis_base.specs.declared.StatusName.{StatusName}
+use Rattle.ndis_base.specs.declared.StatusNo.{StatusNo}
 use Rattle.ndis_base.specs.declared.Who.{Who}
 use Rattle.ndis_base.specs.declared.Direction.{Direction}
 use Rattle.ndis_base.specs.declared.Direction.TheVariants as direction
@@ -25,17 +30,20 @@ use Rattle.buffer_pools.specs.declared.label.Label.{Label}
 use Rattle.buffer_pools.specs.Views.{ListView, PoolView, Issues, Frees}
 use Rattle.agenda_items.specs.declared.Carried.{Carried}
 use Rattle.agenda_items.specs.declared.Carried.TheVariants.{List as a_list, Status as a_status, Answer as an_answer}
-use Rattle.agenda_items.specs.Views.{passed_by}
+use Rattle.agenda_items.specs.Views.{passed_by, carries_status, carries_answer}
 use Rattle.driver_tray.specs.declared.on_way.First.{First}
 use Rattle.driver_tray.specs.declared.on_way.First.TheVariants as first
 use Rattle.flat_journal.specs.declared.types.FlatRow.{FlatRow}
 use Rattle.flat_journal.specs.declared.types.FlatRow.TheVariants as flat_row
 use Rattle.flat_journal.specs.declared.types.Room.{Room}
 use Rattle.flat_journal.specs.Payloads.{Payloads}
-use Rattle.stack_rules.specs.Net.{Net, start, told, after}
+use Rattle.stack_rules.specs.declared.Answered.{Answered}
+use Rattle.stack_rules.specs.declared.Request.{Request}
+use Rattle.stack_rules.specs.declared.StatusAway.{StatusAway}
+use Rattle.stack_rules.specs.Net.{Net, start, told, after, request_of}
 use Rattle.stack_rules.specs.Places.{position}
-use Rattle.stack_rules.specs.Targets.{onward, homeward_by}
-use Rattle.stack_rules.specs.Outcome.{list_no, config_no}
+use Rattle.stack_rules.specs.Targets.{onward, homeward_by, next_status}
+use Rattle.stack_rules.specs.Outcome.{list_no, config_no, oid_no}
 use Rattle.stack_ledger.specs.Bare.{filter_number}
 
 pub record TrayView : Type 0 where
@@ -95,6 +103,16 @@ is_status_away (a_status s) = true
 is_status_away (a_list l way to) = false
 is_status_away (an_answer a) = false
 
+-- the first thing on its way, where it is a status
+abbrev pub first_status : List Carried → Option StatusAway
+first_status (a_status s ∷ rest) = Some s
+first_status _ = None
+
+-- the first thing on its way, where it is an answer
+abbrev pub first_answer : List Carried → Option Answered
+first_answer (an_answer a ∷ rest) = Some a
+first_answer _ = None
+
 -- the rows that change only lists, statuses, answers and messages
 abbrev pub IsSteady : FlatRow → Type 0
 IsSteady (flat_row.Give list m handler) = Unit {0}
@@ -112,6 +130,11 @@ pub record IsLow (net : Net) : Type 0 where
   pub list : net.next.list < 2 ^ 60
   pub sent : net.port.sent < 2 ^ 60
   pub received : net.port.received < 2 ^ 60
+
+-- so are the numbers of statuses and of requests
+pub record HasNumbers (net : Net) : Type 0 where
+  pub status : net.next.status < 2 ^ 60
+  pub request : net.next.request < 2 ^ 60
 
 -- one more row
 abbrev pub written : TrayView → Row → TrayView
@@ -288,3 +311,68 @@ pub record Copies (t : TrayView) (l : ListView) (made : List (List ℕ)) (t' : T
 abbrev pub phase_filter : PhaseOf → ℕ
 phase_filter (of.Module m s) = filter_number m
 phase_filter (of.Stack p) = 0
+
+-- the status of a number is no longer on its way
+abbrev pub without_status : TrayView → ℕ → TrayView
+without_status t n = record t { queue = filter (λ c. not (carries_status n c)) t.queue }
+
+-- a module saw a status
+abbrev pub seen_at : TrayView → StatusNo → ModuleId → TrayView
+seen_at t number m = without_status (written t (row.Seen number m)) number.0
+
+-- a status is on its way, behind all else
+abbrev pub status_on : TrayView → StatusAway → TrayView
+status_on t s = record (written t (row.Status s.number s.name s.to)) { queue = filter (λ c. not (carries_status s.number.0 c)) t.queue ++ a_status s ∷ []; slack = t.slack - 1 }
+
+-- a status as the module that is called indicates it
+abbrev pub status_from : TrayView → StatusNo → StatusName → StatusAway
+status_from t number name = record { number = number; name = name; to = next_status t.net.modules (position t.net.modules.order t.caller) }
+
+abbrev pub indicated : TrayView → StatusNo → StatusName → TrayView
+indicated t number name = status_on t (status_from t number name)
+
+-- the value of a request, which rows can show: it takes the room of a frame and of its bytes
+abbrev pub valued : TrayView → List ℕ → TrayView
+valued t value = framed t (value ∷ [])
+
+-- a request was issued, which takes room for one
+abbrev pub request_issued : TrayView → Row → TrayView
+request_issued t r = record (written t r) { slack = t.slack - 1 }
+
+-- a binding asked with a value that the journal has
+abbrev pub asked : TrayView → ℕ → OidKind → ℕ → List ℕ → TrayView
+asked t binding kind code value = request_issued t (row.OidIssue (oid_no t.net.next.request) None binding kind code value)
+
+-- a filter forwarded a request by a clone
+abbrev pub forwarded : TrayView → Request → TrayView
+forwarded t r = request_issued (valued t r.value) (row.OidIssue (oid_no t.net.next.request) (Some r.request) r.binding r.kind r.code r.value)
+
+-- a module was given a request
+abbrev pub request_given : TrayView → OidNo → ModuleId → TrayView
+request_given t request to = written t (row.OidGive request to)
+
+-- what is on its way once a request is done: the answer to it no more, and its own answer behind all else where it
+-- has a parent
+abbrev pub queue_after_answer : Option OidNo → OidNo → OidStatus → List ℕ → List Carried → List Carried
+queue_after_answer None request status value queue = queue
+queue_after_answer (Some parent) request status value queue = queue ++ an_answer (record { request = request; parent = parent; status = status; value = value }) ∷ []
+
+abbrev pub queue_after_done : Option Request → OidNo → OidStatus → List ℕ → List Carried → List Carried
+queue_after_done None request status value queue = queue
+queue_after_done (Some r) request status value queue = queue_after_answer r.parent request status value (filter (λ c. not (carries_answer request.0 c)) queue)
+
+-- the room that is left for things on their way: its answer takes room for one
+abbrev pub slack_after_answer : Option OidNo → ℕ → ℕ
+slack_after_answer None slack = slack
+slack_after_answer (Some parent) slack = slack - 1
+
+abbrev pub slack_after_done : Option Request → ℕ → ℕ
+slack_after_done None slack = slack
+slack_after_done (Some r) slack = slack_after_answer r.parent slack
+
+-- a request was completed
+abbrev pub completed : TrayView → OidNo → OidStatus → List ℕ → TrayView
+completed t request status value = record (written (valued t value) (row.OidDone request status value)) {
+  queue = queue_after_done (request_of request.0 t.net.requests) request status value t.queue;
+  slack = slack_after_done (request_of request.0 t.net.requests) t.slack;
+}

@@ -40,6 +40,13 @@ impl Tray {
         self.ledger.delivers_by()
     }
 
+    /// The packet filter of each binding that the miniport answers with.
+    pub fn answers_by(&self) -> &[u32]
+        ensures { result.now ≡ self.now.net.port.answers_by }
+    {
+        self.ledger.answers_by()
+    }
+
     /// The requests that aren't done.
     pub fn requests(&self) -> &[Request]
         ensures { result.now ≡ self.now.net.requests }
@@ -97,6 +104,13 @@ impl Tray {
         ensures { result ≡ list_no self.now.net.next.list }
     {
         self.ledger.next_list()
+    }
+
+    /// How many frames the miniport sent.
+    pub fn sent(&self) -> u64
+        ensures { result ≡ self.now.net.port.sent }
+    {
+        self.ledger.sent()
     }
 
     /// How many frames the miniport indicated.

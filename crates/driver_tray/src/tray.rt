@@ -10,7 +10,7 @@ ghost use Rattle.flat_journal.specs.Shown.{row_of};
 ghost use Rattle.flat_journal.specs.Within.{RowWithin};
 ghost use Rattle.ndis_base.specs.declared.Origin.TheVariants as origin;
 ghost use Rattle.agenda_items.specs.Waits.{waits_at};
-ghost use Rattle.driver_tray.specs.Tray.{TrayView, IsNew, written, framed, passed, issue_row, clone_issued, IsSteady, IsLow};
+ghost use Rattle.driver_tray.specs.Tray.{TrayView, IsNew, written, framed, passed, issue_row, clone_issued, IsSteady, IsLow, HasNumbers};
 ghost use Rattle.driver_tray.specs.Waits.{waits_after};
 
 use crate::telling::Telling;
@@ -36,7 +36,7 @@ pub struct Tray {
     pub(crate) told: Option<Telling>,
     pub(crate) ledger: StackLedger,
     pub(crate) queue: VecDeque<Carried>,
-    slack: usize,
+    pub(crate) slack: usize,
     waits: WaitingLists,
     pub(crate) caller: ModuleId,
     pub(crate) pool: ListPool,
@@ -103,9 +103,12 @@ fn follow(waits: &mut WaitingLists, row: FlatRow)
 }
 
 fn is_far(ledger: &StackLedger) -> bool
-    ensures { result ≡ false → IsLow ledger.now.net }
+    ensures low { result ≡ false → IsLow ledger.now.net }
+    ensures numbers { result ≡ false → HasNumbers ledger.now.net }
 {
-    ledger.next_list().0 >= FAR || ledger.sent() >= FAR || ledger.received() >= FAR
+    (ledger.next_list().0 >= FAR || ledger.next_status_number().0 >= FAR)
+        || (ledger.sent() >= FAR || ledger.received() >= FAR)
+        || ledger.next_request().0 >= FAR
 }
 
 impl Tray {
@@ -127,13 +130,14 @@ impl Tray {
         })
     }
 
-    /// Makes room in the journal, and for so many more things on their way. It also answers want of
-    /// memory where a count has come to 2 to the power of 60, which no run can reach.
+    /// Makes room in the journal, and for so many more things on their way and requests together. It also
+    /// answers want of memory where a count has come to 2 to the power of 60, which no run can reach.
     pub fn make_room(&mut self, room: Room, things: usize) -> Result<(), OutOfMemory>
         ensures same { self.new ≡ record self.old { room = self.new.room; slack = self.new.slack } }
         ensures room { OnOk result (Covers self.new.room room) }
         ensures slack { OnOk result (things ≤ self.new.slack) }
         ensures low { OnOk result (IsLow self.new.net) }
+        ensures numbers { OnOk result (HasNumbers self.new.net) }
         ensures room_kept { Covers self.new.room self.old.room }
         ensures slack_kept { self.old.slack ≤ self.new.slack }
     {
@@ -144,6 +148,7 @@ impl Tray {
         if self.slack < things {
             self.waits.make_room(things)?;
             self.queue.reserve(things)?;
+            self.ledger.make_room(things)?;
             self.slack = things;
         }
         Ok(())

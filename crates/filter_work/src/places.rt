@@ -15,7 +15,7 @@ use driver_tray::Tray;
 use ndis_base::OutOfMemory;
 
 /// The place of a filter's driver.
-fn place_of(seats: &[(u64, usize)], f: u64) -> Option<usize>
+pub fn place_of(seats: &[(u64, usize)], f: u64) -> Option<usize>
     ensures { result ≡ seat_of seats.now f }
 {
     match seats {

@@ -10,7 +10,7 @@ use driver_calls::{AttachFault, FilterDriver, LentFate};
 use driver_tray::Tray;
 use driver_views::Served;
 use journal_types::Setup;
-use ndis_base::{FilterKind, ListStatus, OutOfMemory};
+use ndis_base::{FilterKind, ListStatus, OutOfMemory, StatusName, StatusNo};
 use std::alloc::Global;
 
 /// A count filter has no rules, counts each list that it is given, and passes it on. It refuses to attach where
@@ -79,6 +79,10 @@ impl FilterDriver for CountFilter {
 
     fn returned(&mut self, list: BufferList, status: ListStatus, tray: &mut Tray) {
         self.core.returned(list, status, tray);
+    }
+
+    fn status(&mut self, number: StatusNo, name: StatusName, tray: &mut Tray) {
+        self.core.status(number, name, tray);
     }
 
     fn cancel(&mut self, _id: u32, _tray: &mut Tray) {}

@@ -12,7 +12,7 @@ use driver_tray::Tray;
 use driver_views::Served;
 use journal_types::Setup;
 use kept_lists::KeptLists;
-use ndis_base::{FilterKind, ListStatus, OutOfMemory};
+use ndis_base::{FilterKind, ListStatus, OutOfMemory, StatusName, StatusNo};
 use std::alloc::Global;
 
 /// A hold filter has no rules. It keeps each list that it is given, and passes all on when the stack is to become
@@ -105,6 +105,11 @@ impl FilterDriver for HoldFilter {
     fn returned(&mut self, list: BufferList, status: ListStatus, tray: &mut Tray) {
         self.served.returned += 1;
         take_home(&mut self.kept, list, status, tray);
+    }
+
+    fn status(&mut self, number: StatusNo, name: StatusName, tray: &mut Tray) {
+        self.served.status += 1;
+        tray.indicate_status(number, name);
     }
 
     fn cancel(&mut self, id: u32, tray: &mut Tray) {

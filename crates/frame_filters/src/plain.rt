@@ -7,7 +7,7 @@ ghost use Rattle.driver_calls.specs.declared.faults.AttachFault.TheVariants.{Ref
 ghost use Rattle.driver_calls.specs.declared.fates.LentFate.TheVariants.{Left};
 ghost use Rattle.driver_calls.specs.Rooms.{CanCount};
 ghost use Rattle.driver_views.specs.States.{called_for};
-ghost use Rattle.driver_calls.specs.Filters.{MayHandle, IsHandled, MayComplete, IsCompleted, Refuses};
+ghost use Rattle.driver_calls.specs.Filters.{MayHandle, IsHandled, MayComplete, IsCompleted, MaySee, IsSeenBy, Refuses};
 ghost use Rattle.frame_filters.specs.Filters.{new_filter};
 ghost use Rattle.frame_filters.specs.States.{plain_state};
 
@@ -18,7 +18,7 @@ use buffer_pools::BufferList;
 use driver_calls::{AttachFault, LentFate};
 use driver_tray::Tray;
 use journal_types::Setup;
-use ndis_base::{FilterKind, ListStatus};
+use ndis_base::{FilterKind, ListStatus, StatusName, StatusNo};
 
 impl Plain {
     /// On the shelf, and never called.
@@ -93,6 +93,15 @@ impl Plain {
     {
         self.served.receive_lent += 1;
         LentFate::Left
+    }
+
+    /// Counts a status, and indicates it further up.
+    pub(crate) fn status(&mut self, number: StatusNo, name: StatusName, tray: &mut Tray)
+        requires { MaySee (plain_state self.old) tray.old }
+        ensures { IsSeenBy (plain_state self.old) number name tray.old (plain_state self.new) tray.new }
+    {
+        self.served.status += 1;
+        tray.indicate_status(number, name);
     }
 
     pub(crate) fn detach(&mut self)

@@ -6,14 +6,13 @@ use Rattle.ndis_base.specs.declared.ModuleId.{ModuleId}
 use Rattle.ndis_base.specs.declared.ModuleId.TheVariants.{Miniport, Filter, Binding}
 use Rattle.ndis_base.specs.declared.ModuleState.TheVariants as state
 use Rattle.journal_types.specs.declared.Row.{Row}
-use Rattle.journal_store.specs.Sizes.{row_bytes}
 use Rattle.stack_rules.specs.Net.{Net, after, after_rows}
 use Rattle.stack_rules.specs.Pauses.{state_row, state_rows, halt_rows}
 use Rattle.promise_rules.specs.Calls.{logged_at}
 use Rattle.driver_tray.specs.Tray.{TrayView, written}
 use Rattle.book_lemmas.specs.Did.{calls_in, logs_in}
 use Rattle.book_lemmas.specs.Leaves.{ArePhases}
-use Rattle.book_lemmas.specs.Turns.{HasUsed, row_frames, is_way}
+use Rattle.book_lemmas.specs.Turns.{HasUsed, row_frames, shown_bytes, is_way}
 use Rattle.book_lemmas.proofs.Goes.{after_rows-append, calls_in-append, used_none, used_then}
 use Rattle.phase_work.specs.Written.{each_written, bindings_from}
 use Rattle.phase_work.proofs.EachBinding.{each_append}
@@ -30,7 +29,7 @@ off_used : (t : TrayView) (f : ℕ) → HasUsed t (off_row f ∷ []) (written t 
 off_used t f =
     let one : length (off_row f ∷ []) ≡ 1 = refl in
     let shown = sum_by-cons row_frames (off_row f) [] in
-    let long = sum_by-cons row_bytes (off_row f) [] in
+    let long = sum_by-cons shown_bytes (off_row f) [] in
     let ways = sum_by-cons (λ q. cond (is_way q) 1 0) (off_row f) [] in
     record { rows_used = omega (arith, one); frames = omega (arith, shown); bytes = omega (arith, long); slack = omega (arith, ways); turns = omega arith; payloads = grows_nothing t.payloads }
 

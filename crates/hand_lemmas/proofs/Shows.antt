@@ -20,7 +20,8 @@ use Rattle.stack_rules.specs.Places.{is_away, is_passed, is_kept_by}
 use Rattle.rule_basics.specs.Live.{touched, retouched}
 use Rattle.rule_basics.proofs.Lists.{lists-append, lists-without, lists-changed}
 use Rattle.agenda_items.specs.declared.Carried.{Carried}
-use Rattle.hand_lemmas.specs.Hands.{Common, in_hand, in_state, Seen, carried, seen, is_loose, Hands, IsHoused, IsCarriedHome, out, carries, carries_status, carries_answer, taken, queued, loosed, kept_at, without_status, without_answer}
+use Rattle.agenda_items.specs.Views.{carries_status, carries_answer}
+use Rattle.hand_lemmas.specs.Hands.{Common, in_hand, in_state, Seen, carried, seen, is_loose, Hands, IsHoused, IsCarriedHome, out, carries, taken, queued, loosed, kept_at, without_status, without_answer}
 use Rattle.agenda_items.specs.declared.Carried.TheVariants.{List as a_list, Status as a_status, Answer as an_answer}
 use Rattle.hand_lemmas.specs.Hands.Seen.{see_list, see_status, see_answer}
 use Rattle.hand_lemmas.proofs.Filters.{filters_swap, filters_match, push_yes, push_no}

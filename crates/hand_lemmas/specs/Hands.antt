@@ -23,6 +23,7 @@ use Rattle.stack_rules.specs.Tests.{same_module}
 use Rattle.stack_rules.specs.Net.{Net, lists, list_of}
 use Rattle.stack_rules.specs.Places.{is_crossed, has_clone, agenda, kept_lists, owned}
 use Rattle.rule_basics.specs.Numbers.{IsNumbered}
+use Rattle.agenda_items.specs.Views.{carries_status, carries_answer}
 use Rattle.agenda_items.specs.Waits.{waits_at}
 
 -- what a list in hand and a live list have in common
@@ -109,18 +110,6 @@ abbrev pub carries : ℕ → Carried → Bool
 carries n (a_list l way to) = l.label.number.0 == n
 carries n (a_status s) = false
 carries n (an_answer a) = false
-
--- the status of this number
-abbrev pub carries_status : ℕ → Carried → Bool
-carries_status n (a_status s) = s.number.0 == n
-carries_status n (a_list l way to) = false
-carries_status n (an_answer a) = false
-
--- the answer to this request
-abbrev pub carries_answer : ℕ → Carried → Bool
-carries_answer parent (an_answer a) = a.parent.0 == parent
-carries_answer parent (a_list l way to) = false
-carries_answer parent (a_status s) = false
 
 -- the list of this number is taken from where it is
 abbrev pub taken : ℕ → Hands → Hands

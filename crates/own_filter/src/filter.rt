@@ -22,7 +22,7 @@ use driver_tray::Tray;
 use driver_views::Served;
 use frame_filters::{not_called, risen};
 use journal_types::Setup;
-use ndis_base::{FilterKind, ListStatus, OutOfMemory};
+use ndis_base::{FilterKind, ListStatus, OutOfMemory, StatusName, StatusNo};
 use std::alloc::Global;
 use std::sync::Arc;
 
@@ -135,6 +135,11 @@ impl FilterDriver for EtherTypeFilter {
     fn returned(&mut self, list: BufferList, status: ListStatus, tray: &mut Tray) {
         self.served.returned += 1;
         pass_home(list, status, tray);
+    }
+
+    fn status(&mut self, number: StatusNo, name: StatusName, tray: &mut Tray) {
+        self.served.status += 1;
+        tray.indicate_status(number, name);
     }
 
     fn cancel(&mut self, _id: u32, _tray: &mut Tray) {}

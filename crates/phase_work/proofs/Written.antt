@@ -6,7 +6,6 @@ use Rattle.ndis_base.specs.declared.ModuleId.{ModuleId}
 use Rattle.ndis_base.specs.declared.ModuleId.TheVariants.{Miniport, Filter, Binding}
 use Rattle.journal_types.specs.declared.Row.{Row}
 use Rattle.journal_types.specs.declared.Row.TheVariants as row
-use Rattle.journal_store.specs.Sizes.{row_bytes}
 use Rattle.stack_rules.specs.Net.{Net, after, after_rows}
 use Rattle.promise_rules.specs.Calls.{is_call_of, logged_at}
 use Rattle.driver_views.specs.States.{Record, times}
@@ -16,7 +15,7 @@ use Rattle.book_lemmas.specs.Views.{BookView, HeldView, hands_of}
 use Rattle.book_lemmas.specs.Did.{calls_in, logs_in, IsServed, Did}
 use Rattle.book_lemmas.specs.Leaves.{ArePhases, Leaves}
 use Rattle.book_lemmas.specs.Stands.{Stands, AllSized, DriversFit}
-use Rattle.book_lemmas.specs.Turns.{HasUsed, row_frames, is_way}
+use Rattle.book_lemmas.specs.Turns.{HasUsed, row_frames, shown_bytes, is_way}
 use Rattle.book_lemmas.proofs.Keeps.{keeps_none}
 use Rattle.book_lemmas.proofs.Goes.{used_none, used_then}
 use Rattle.book_lemmas.proofs.Phases.{phases_agree, stands_phases}
@@ -35,11 +34,11 @@ pub record HasWritten (t : TrayView) (rows : List Row) (t' : TrayView) : Type 0 
   pub used : HasUsed t rows t'
 
 -- a row of a phase shows no frames and puts nothing on its way
-quiet_row : (t : TrayView) (r : Row) → row_frames r ≡ 0 → row_bytes r ≡ 0 → is_way r ≡ false → HasUsed t (r ∷ []) (written t r)
+quiet_row : (t : TrayView) (r : Row) → row_frames r ≡ 0 → shown_bytes r ≡ 0 → is_way r ≡ false → HasUsed t (r ∷ []) (written t r)
 quiet_row t r frames bytes way =
     let one : length (r ∷ []) ≡ 1 = refl in
     let shown = sum_by-cons row_frames r [] in
-    let long = sum_by-cons row_bytes r [] in
+    let long = sum_by-cons shown_bytes r [] in
     let ways = sum_by-cons (λ q. cond (is_way q) 1 0) r [] in
     record { rows_used = omega (arith, one); frames = omega (arith, shown); bytes = omega (arith, long); slack = omega (arith, ways); turns = omega arith; payloads = grows_nothing t.payloads }
 

@@ -22,7 +22,7 @@ use Rattle.stack_rules.specs.Pumps.{pump_of, pump_outcome, request_pump, is_pump
 use Rattle.stack_rules.specs.Requests.{next_giving}
 use Rattle.agenda_items.specs.declared.Carried.{Carried}
 use Rattle.agenda_items.specs.declared.Carried.TheVariants.{List as a_list, Status as a_status, Answer as an_answer}
-use Rattle.hand_lemmas.proofs.Tells.{next_list, none_away}
+use Rattle.hand_lemmas.proofs.Tells.{next_list, next_status, next_answer, none_away}
 use Rattle.place_laws.specs.Kept.{StandsPlaced}
 use Rattle.driver_tray.specs.declared.on_way.First.{First}
 use Rattle.driver_tray.specs.declared.on_way.First.TheVariants as first
@@ -33,7 +33,7 @@ use Rattle.book_lemmas.proofs.Between.{first_placed}
 use Rattle.book_parts.specs.Events.{IsBook, IsIdle, DidEvent, FirstIs}
 use Rattle.book_parts.proofs.Ended.{idle_state}
 use Rattle.book_parts.proofs.Events.{Begins, did_event, ends_still}
-use Rattle.pump_work.specs.Pumps.{IsList, HasListsOnly}
+use Rattle.pump_work.specs.Pumps.{IsNoAnswer, HasNoRequests}
 
 -- the list that is first on its way
 pub first_is : {v : BookView} {by : PassWay} {to : Target} → first_way v.tray.queue ≡ Some (first.List by to) → FirstIs v by to
@@ -55,12 +55,12 @@ none_is (a_list l w t ∷ rest) e = cc
 none_is (a_status s ∷ rest) e = cc
 none_is (an_answer a ∷ rest) e = cc
 
--- where only lists are on their way, no status and no answer is the first
-pub not_other : (q : List Carried) (f : First) → All IsList q → first_way q ≡ Some f → ((by : PassWay) (to : Target) → f ≡ first.List by to → ⊥) → ⊥
-not_other [] f all e none = cc
-not_other (a_list l w t ∷ rest) f all e none = none w t (let same : Some (first.List w t) ≡ Some f = e in cc)
-not_other (a_status s ∷ rest) f all e none = All-head IsList (a_status s) rest all
-not_other (an_answer a ∷ rest) f all e none = All-head IsList (an_answer a) rest all
+-- where no answer is on its way, none is the first
+pub not_answer : (q : List Carried) → All IsNoAnswer q → first_way q ≡ Some first.Answer → ⊥
+not_answer [] all e = cc
+not_answer (a_list l w t ∷ rest) all e = cc
+not_answer (a_status s ∷ rest) all e = cc
+not_answer (an_answer a ∷ rest) all e = All-head IsNoAnswer (an_answer a) rest all
 
 between : (old : BookView) → IsBook old → IsIdle old → IsBetween old.tray.head old.tray.turns old.tray.net
 between old k i = record { is = idle_state old k i; sound = k.follows.sound; bound = k.bound }
@@ -88,7 +88,7 @@ abbrev any_choice : Choice
 any_choice = record { keeps = false; refuses = false; shelf_empty = false }
 
 -- where nothing is on its way, and no request may be given, a pump is idle
-pub did_idle : (old : BookView) (t : TrayView) → IsBook old → IsIdle old → HasListsOnly old → first_way old.tray.queue ≡ None → Begins old.tray t []
+pub did_idle : (old : BookView) (t : TrayView) → IsBook old → IsIdle old → HasNoRequests old → first_way old.tray.queue ≡ None → Begins old.tray t []
     → DidEvent old (record { tray = t; held = old.held }) event.Pump reply.Idle
 did_idle old t k i only none g =
     let net : Net = old.tray.net in
@@ -97,12 +97,18 @@ did_idle old t k i only none g =
     did_event old _ [] event.Pump any_choice reply.Idle k i (ends_still t k g)
     (ap (λ (o : Outcome). o.reply) (sym out)) (ap (λ (o : Outcome). o.rows) (sym out)) refl tt (refl, refl)
 
--- where a pump moves something, a drain does what a pump does
-pub as_drain : (old new : BookView) (answer : Reply) (by : PassWay) (to : Target) → IsBook old → FirstIs old by to → DidEvent old new event.Pump answer → DidEvent old new event.Drain answer
-as_drain old new answer by to k f d =
+-- where something is on its way, a pump moves
+some_away : (old : BookView) (q : List Carried) (f : First) → IsBook old → old.tray.queue ≡ q → first_way q ≡ Some f → is_some (agenda_first old.tray.net) ≡ true
+some_away old [] f k is e = cc
+some_away old (a_list l w t ∷ rest) f k is e = ap is_some (next_list old.tray.net (hands_of old.tray.queue old.held []) l w t rest k.stands.agrees is).first
+some_away old (a_status s ∷ rest) f k is e = ap is_some (next_status old.tray.net (hands_of old.tray.queue old.held []) s rest k.stands.agrees is)
+some_away old (an_answer a ∷ rest) f k is e = ap is_some (next_answer old.tray.net (hands_of old.tray.queue old.held []) a rest k.stands.agrees is)
+
+-- and a drain does what a pump does
+pub as_drain : (old new : BookView) (answer : Reply) (f : First) → IsBook old → first_way old.tray.queue ≡ Some f → DidEvent old new event.Pump answer → DidEvent old new event.Drain answer
+as_drain old new answer f k e d =
     let net : Net = old.tray.net in
-    let n = next_list net (hands_of old.tray.queue old.held []) f.list by to f.rest k.stands.agrees f.first in
-    let moving : is_pump_moving net ≡ true = ap (λ o. is_some o || is_some (next_giving net)) n.first in
+    let moving : is_pump_moving net ≡ true = ap (λ b. b || is_some (next_giving net)) (some_away old old.tray.queue f k refl e) in
     let same : drain_outcome net d.choice.keeps ≡ pump_outcome net d.choice.keeps = cond-true (is_pump_moving net) _ _ moving in
     record {
       book = d.book;

@@ -5,13 +5,13 @@ use Rattle.agenda_items.specs.declared.Carried.TheVariants.{List as a_list, Stat
 use Rattle.stack_rules.specs.Requests.{next_giving}
 use Rattle.book_lemmas.specs.Views.{BookView}
 
--- a list, no status and no answer
-abbrev pub IsList : Carried → Type 0
-IsList (a_list l way to) = Unit {0}
-IsList (a_status s) = ⊥
-IsList (an_answer a) = ⊥
+-- a list or a status, no answer
+abbrev pub IsNoAnswer : Carried → Type 0
+IsNoAnswer (a_list l way to) = Unit {0}
+IsNoAnswer (a_status s) = Unit {0}
+IsNoAnswer (an_answer a) = ⊥
 
--- only lists are on their way, and no request may be given
-pub record HasListsOnly (v : BookView) : Type 0 where
-  pub lists : All IsList v.tray.queue
+-- no answer is on its way, and no request may be given
+pub record HasNoRequests (v : BookView) : Type 0 where
+  pub answers : All IsNoAnswer v.tray.queue
   pub requests : next_giving v.tray.net ≡ None

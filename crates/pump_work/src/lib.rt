@@ -3,4 +3,4 @@
 
 pub mod pumps;
 
-pub use crate::pumps::{drain_away, pump};
+pub use crate::pumps::{drain_first, pump};

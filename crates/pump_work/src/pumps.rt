@@ -1,5 +1,5 @@
-//! A pump, by where the first list on its way goes.
-ghost use Rattle.std.specs.Prelude.{◌≡◌, [], None, Some, OnOk, OnErr, IfOk};
+//! A pump, by what is first on its way.
+ghost use Rattle.std.specs.Prelude.{◌≡◌, [], None, Some, All, OnOk, OnErr, IfOk};
 ghost use Rattle.journal_types.specs.declared.Event.TheVariants as event;
 ghost use Rattle.journal_types.specs.declared.Reply.TheVariants as reply;
 ghost use Rattle.flat_journal.specs.Shown.{reply_of};
@@ -8,7 +8,7 @@ ghost use Rattle.driver_tray.specs.Tray.{first_way};
 ghost use Rattle.driver_tray.specs.declared.on_way.First.TheVariants as first;
 ghost use Rattle.book_parts.specs.Parts.{view_of};
 ghost use Rattle.book_parts.specs.Events.{IsBook, IsIdle, DidEvent, IsUnmoved, CanEnd};
-ghost use Rattle.pump_work.specs.Pumps.{HasListsOnly};
+ghost use Rattle.pump_work.specs.Pumps.{IsNoAnswer, HasNoRequests};
 
 use binding_work::work_owner;
 use book_parts::BookParts;
@@ -20,6 +20,7 @@ use flat_journal::{FlatReply, Room};
 use journal_types::{PassWay, Target};
 use miniport_work::work_miniport;
 use ndis_base::{ModuleId, OutOfMemory};
+use status_work::work_status;
 
 /// Nothing is on its way: no row is written.
 fn idle<M: MiniportCalls, P: ProtocolCalls, F: FilterCalls>(
@@ -27,7 +28,7 @@ fn idle<M: MiniportCalls, P: ProtocolCalls, F: FilterCalls>(
 ) -> Result<(), OutOfMemory>
     requires book { IsBook (view_of M.state P.state F.state book.old) }
     requires idle { IsIdle (view_of M.state P.state F.state book.old) }
-    requires lists { HasListsOnly (view_of M.state P.state F.state book.old) }
+    requires none_asked { HasNoRequests (view_of M.state P.state F.state book.old) }
     requires none { first_way (view_of M.state P.state F.state book.old).tray.queue ≡ None }
     ensures did { OnOk result (DidEvent (view_of M.state P.state F.state book.old) (view_of M.state P.state F.state book.new) event.Pump reply.Idle) }
     ensures turn { OnOk result (CanEnd (view_of M.state P.state F.state book.new)) }
@@ -64,31 +65,51 @@ fn work_list<M: MiniportCalls, P: ProtocolCalls, F: FilterCalls>(
     }
 }
 
-/// A drain where a list is first on its way: it is worked as by a pump.
-pub fn drain_away<M: MiniportCalls, P: ProtocolCalls, F: FilterCalls>(
+/// Works the first thing on its way, a list or a status.
+fn work_first<M: MiniportCalls, P: ProtocolCalls, F: FilterCalls>(
     book: &mut BookParts<M, P, F>,
-    way: PassWay,
-    to: Target,
+    first: First,
 ) -> Result<(), OutOfMemory>
     requires book { IsBook (view_of M.state P.state F.state book.old) }
     requires idle { IsIdle (view_of M.state P.state F.state book.old) }
-    requires first { first_way (view_of M.state P.state F.state book.old).tray.queue ≡ Some (first.List way to) }
+    requires answers { All IsNoAnswer (view_of M.state P.state F.state book.old).tray.queue }
+    requires first { first_way (view_of M.state P.state F.state book.old).tray.queue ≡ Some first }
+    ensures did { OnOk result (DidEvent (view_of M.state P.state F.state book.old) (view_of M.state P.state F.state book.new) event.Pump reply.Moved) }
+    ensures turn { OnOk result (CanEnd (view_of M.state P.state F.state book.new)) }
+    ensures memory { OnErr result (IsUnmoved (view_of M.state P.state F.state book.old) (view_of M.state P.state F.state book.new)) }
+{
+    match first {
+        First::List { way, to } => work_list(book, way, to),
+        First::Status => work_status(book),
+        First::Answer => unreachable!(),
+    }
+}
+
+/// A drain where something is first on its way, a list or a status: it is worked as by a pump.
+pub fn drain_first<M: MiniportCalls, P: ProtocolCalls, F: FilterCalls>(
+    book: &mut BookParts<M, P, F>,
+    first: First,
+) -> Result<(), OutOfMemory>
+    requires book { IsBook (view_of M.state P.state F.state book.old) }
+    requires idle { IsIdle (view_of M.state P.state F.state book.old) }
+    requires answers { All IsNoAnswer (view_of M.state P.state F.state book.old).tray.queue }
+    requires first { first_way (view_of M.state P.state F.state book.old).tray.queue ≡ Some first }
     ensures did { OnOk result (DidEvent (view_of M.state P.state F.state book.old) (view_of M.state P.state F.state book.new) event.Drain reply.Moved) }
     ensures turn { OnOk result (CanEnd (view_of M.state P.state F.state book.new)) }
     ensures memory { OnErr result (IsUnmoved (view_of M.state P.state F.state book.old) (view_of M.state P.state F.state book.new)) }
 {
-    work_list(book, way, to)?;
+    work_first(book, first)?;
     Ok(())
 }
 
-/// Works the first list on its way; Idle where there is none. No status and no answer is on its way, and no
-/// request may be given.
+/// Works the first thing on its way; Idle where there is none. No answer is on its way, and no request may be
+/// given.
 pub fn pump<M: MiniportCalls, P: ProtocolCalls, F: FilterCalls>(
     book: &mut BookParts<M, P, F>,
 ) -> Result<FlatReply, OutOfMemory>
     requires book { IsBook (view_of M.state P.state F.state book.old) }
     requires idle { IsIdle (view_of M.state P.state F.state book.old) }
-    requires lists { HasListsOnly (view_of M.state P.state F.state book.old) }
+    requires none_asked { HasNoRequests (view_of M.state P.state F.state book.old) }
     ensures did { IfOk result (λ r. DidEvent (view_of M.state P.state F.state book.old) (view_of M.state P.state F.state book.new) event.Pump (reply_of (view_of M.state P.state F.state book.new).tray.payloads r)) }
     ensures within { IfOk result (λ r. ReplyWithin (view_of M.state P.state F.state book.new).tray.payloads r) }
     ensures turn { OnOk result (CanEnd (view_of M.state P.state F.state book.new)) }
@@ -99,11 +120,9 @@ pub fn pump<M: MiniportCalls, P: ProtocolCalls, F: FilterCalls>(
             idle(book)?;
             Ok(FlatReply::Idle)
         }
-        Some(First::List { way, to }) => {
-            work_list(book, way, to)?;
+        Some(first) => {
+            work_first(book, first)?;
             Ok(FlatReply::Moved)
         }
-        Some(First::Status) => unreachable!(),
-        Some(First::Answer) => unreachable!(),
     }
 }

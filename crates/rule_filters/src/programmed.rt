@@ -5,7 +5,7 @@ ghost use Rattle.promise_rules.specs.declared.Called.TheVariants as called;
 ghost use Rattle.stack_rules.specs.Tests.{is_hold};
 ghost use Rattle.hand_lemmas.specs.Frames.{AreSized};
 ghost use Rattle.driver_calls.specs.Rooms.{HasRoomForNew};
-ghost use Rattle.driver_calls.specs.Filters.{MayHandle, IsHandled, MayComplete, IsCompleted, Refuses, IsLentTo};
+ghost use Rattle.driver_calls.specs.Filters.{MayHandle, IsHandled, MayComplete, IsCompleted, MaySee, IsSeenBy, Refuses, IsLentTo};
 ghost use Rattle.frame_filters.specs.Filters.{new_filter};
 ghost use Rattle.rule_filters.specs.States.{programmed_state, room_of};
 ghost use Rattle.rule_filters.specs.Changes.{HandlesList, HandlesLentList};
@@ -20,7 +20,7 @@ use frame_filters::{not_called, risen, take_home};
 use frame_programs::MadeFrames;
 use journal_types::Setup;
 use kept_lists::KeptLists;
-use ndis_base::{FilterKind, ListStatus, OutOfMemory};
+use ndis_base::{FilterKind, ListStatus, OutOfMemory, StatusName, StatusNo};
 use std::alloc::Global;
 
 impl Programmed {
@@ -142,6 +142,15 @@ impl Programmed {
     {
         self.served.returned += 1;
         take_home(&mut self.kept, list, status, tray);
+    }
+
+    /// Counts a status, and indicates it further up.
+    pub(crate) fn status(&mut self, number: StatusNo, name: StatusName, tray: &mut Tray)
+        requires { MaySee (programmed_state self.old) tray.old }
+        ensures { IsSeenBy (programmed_state self.old) number name tray.old (programmed_state self.new) tray.new }
+    {
+        self.served.status += 1;
+        tray.indicate_status(number, name);
     }
 
     pub(crate) fn detach(&mut self)

@@ -10,7 +10,7 @@ use driver_calls::{AttachFault, FilterDriver, LentFate};
 use driver_tray::Tray;
 use driver_views::Served;
 use journal_types::Setup;
-use ndis_base::{FilterKind, ListStatus, OutOfMemory};
+use ndis_base::{FilterKind, ListStatus, OutOfMemory, StatusName, StatusNo};
 use std::alloc::Global;
 
 /// A rule filter does with the frames of each list what its programs say. It attaches with any programs.
@@ -83,6 +83,10 @@ impl FilterDriver for RuleFilter {
 
     fn returned(&mut self, list: BufferList, status: ListStatus, tray: &mut Tray) {
         self.core.returned(list, status, tray);
+    }
+
+    fn status(&mut self, number: StatusNo, name: StatusName, tray: &mut Tray) {
+        self.core.status(number, name, tray);
     }
 
     fn cancel(&mut self, _id: u32, _tray: &mut Tray) {}

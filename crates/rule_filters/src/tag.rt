@@ -14,7 +14,7 @@ use driver_calls::{AttachFault, FilterDriver, LentFate};
 use driver_tray::Tray;
 use driver_views::Served;
 use journal_types::Setup;
-use ndis_base::{FilterKind, ListStatus, OutOfMemory};
+use ndis_base::{FilterKind, ListStatus, OutOfMemory, StatusName, StatusNo};
 use std::alloc::Global;
 
 /// A tag filter puts a VLAN tag on each frame that is sent, and takes it off the received frames of that VLAN. It
@@ -95,6 +95,10 @@ impl FilterDriver for TagFilter {
 
     fn returned(&mut self, list: BufferList, status: ListStatus, tray: &mut Tray) {
         self.core.returned(list, status, tray);
+    }
+
+    fn status(&mut self, number: StatusNo, name: StatusName, tray: &mut Tray) {
+        self.core.status(number, name, tray);
     }
 
     fn cancel(&mut self, _id: u32, _tray: &mut Tray) {}

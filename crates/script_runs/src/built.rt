@@ -16,7 +16,7 @@ use std::alloc::Global;
 
 /// Whether a script can be run: one stack of an adapter with a ring, of 1 to 8 protocols that
 /// log, retain or echo, and of at most 16 filters that don't classify; and calls of the script's lanes
-/// that send, indicate, lend, give back, cancel, transmit, pump, drain, pause, restart, or change the filters by such.
+/// that send, indicate, lend, give back, cancel, tell statuses, transmit, pump, drain, pause, restart, or change the filters by such.
 pub fn is_built(script: &Script) -> bool
     ensures { result ≡ form.is_built script.now }
 {
@@ -161,7 +161,8 @@ fn is_asked_kind(stack: &StackSetup, kind: &CallKind) -> bool
         CallKind::Insert { setup, .. } => is_setup(setup),
         CallKind::Remove { filter } => is_number(*filter),
         CallKind::Replace { filter, setup, .. } => is_number(*filter) && is_setup(setup),
-        CallKind::Transmit
+        CallKind::Status { .. }
+        | CallKind::Transmit
         | CallKind::Pump
         | CallKind::Drain
         | CallKind::BeginPause

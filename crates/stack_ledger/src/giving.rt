@@ -41,7 +41,8 @@ impl Giving {
     }
 }
 
-fn copy_request(r: &Request) -> Request
+/// An equal request. It takes no memory.
+pub fn copy_request(r: &Request) -> Request
     ensures { result ≡ r.now }
 {
     Request {

@@ -10,7 +10,7 @@ ghost use Rattle.flat_journal.specs.Shown.{event_of, reply_of};
 ghost use Rattle.flat_journal.specs.Within.{EventWithin, ReplyWithin};
 ghost use Rattle.book_parts.specs.Parts.{view_of};
 ghost use Rattle.book_parts.specs.Events.{IsBook, IsIdle, DidEvent, IsUnmoved, CanEnd};
-ghost use Rattle.pump_work.specs.Pumps.{HasListsOnly};
+ghost use Rattle.pump_work.specs.Pumps.{HasNoRequests};
 ghost use Rattle.stack_steps.specs.Steps.{IsHeld, IsWorked, MovesShelf, Steps};
 
 use binding_work::send;
@@ -18,7 +18,6 @@ use book_parts::BookParts;
 use cancel_work::cancel;
 use drain_work::drain_still;
 use driver_calls::{FilterCalls, MiniportCalls, ProtocolCalls};
-use driver_tray::First;
 use flat_journal::{FlatEvent, FlatReply};
 use frame_arena::FrameSpan;
 use halt_work::halt;
@@ -28,10 +27,11 @@ use miniport_work::works::transmit;
 use ndis_base::{ListNo, OutOfMemory, Phase};
 use pause_work::pause_next;
 use phase_work::pauses::begin_pause;
-use pump_work::{drain_away, pump};
+use pump_work::{drain_first, pump};
 use receive_work::{give_back, indicate};
 use rewire_work::{insert, remove, replace};
 use setup_work::{initialize, restart_next};
+use status_work::indicate_status;
 use std::alloc::Global;
 
 /// The answer to a transmission.
@@ -136,14 +136,14 @@ fn lend_frames<M: MiniportCalls, P: ProtocolCalls, F: FilterCalls>(
     lend(book, frames.items(), span)
 }
 
-/// A drain: a list on its way is worked, and where there is none, the first module from the top that keeps a ready
+/// A drain: what is first on its way is worked, and where nothing is, the first module from the top that keeps a ready
 /// list gives it away.
 fn drain<M: MiniportCalls, P: ProtocolCalls, F: FilterCalls>(
     book: &mut BookParts<M, P, F>,
 ) -> Result<FlatReply, OutOfMemory>
     requires book { IsBook (view_of M.state P.state F.state book.old) }
     requires idle { IsIdle (view_of M.state P.state F.state book.old) }
-    requires lists { HasListsOnly (view_of M.state P.state F.state book.old) }
+    requires none_asked { HasNoRequests (view_of M.state P.state F.state book.old) }
     requires rings { is_virtual (view_of M.state P.state F.state book.old).tray.net.head.kind ≡ false }
     ensures did { IfOk result (λ r. DidEvent (view_of M.state P.state F.state book.old) (view_of M.state P.state F.state book.new) events.Drain (reply_of (view_of M.state P.state F.state book.new).tray.payloads r)) }
     ensures within { IfOk result (λ r. ReplyWithin (view_of M.state P.state F.state book.new).tray.payloads r) }
@@ -152,12 +152,10 @@ fn drain<M: MiniportCalls, P: ProtocolCalls, F: FilterCalls>(
 {
     match book.tray.first() {
         None => drain_still(book),
-        Some(First::List { way, to }) => {
-            drain_away(book, way, to)?;
+        Some(first) => {
+            drain_first(book, first)?;
             Ok(FlatReply::Moved)
         }
-        Some(First::Status) => unreachable!(),
-        Some(First::Answer) => unreachable!(),
     }
 }
 
@@ -170,7 +168,7 @@ fn work<M: MiniportCalls, P: ProtocolCalls, F: FilterCalls>(
 ) -> Result<FlatReply, OutOfMemory>
     requires book { IsBook (view_of M.state P.state F.state book.old) }
     requires idle { IsIdle (view_of M.state P.state F.state book.old) }
-    requires lists { HasListsOnly (view_of M.state P.state F.state book.old) }
+    requires none_asked { HasNoRequests (view_of M.state P.state F.state book.old) }
     requires rings { is_virtual (view_of M.state P.state F.state book.old).tray.net.head.kind ≡ false }
     requires held { IsHeld (view_of M.state P.state F.state book.old) event.now held }
     ensures did { IfOk result (λ r. DidEvent (view_of M.state P.state F.state book.old) (view_of M.state P.state F.state book.new) (event_of (view_of M.state P.state F.state book.old).tray.payloads held) (reply_of (view_of M.state P.state F.state book.new).tray.payloads r)) }
@@ -201,6 +199,7 @@ fn work<M: MiniportCalls, P: ProtocolCalls, F: FilterCalls>(
         FlatEvent::Lend { frames } => lend_frames(book, event, frames),
         FlatEvent::GiveBack { binding, list } => give_back(book, binding, list),
         FlatEvent::Cancel { id } => cancel(book, id),
+        FlatEvent::Status { name } => indicate_status(book, name),
         FlatEvent::Transmit => transmit_oldest(book),
         FlatEvent::Pump => pump(book),
         FlatEvent::Drain => drain(book),
@@ -221,7 +220,7 @@ pub fn step<M: MiniportCalls, P: ProtocolCalls, F: FilterCalls>(
 ) -> Result<FlatReply, OutOfMemory>
     requires book { IsBook (view_of M.state P.state F.state book.old) }
     requires idle { IsIdle (view_of M.state P.state F.state book.old) }
-    requires lists { HasListsOnly (view_of M.state P.state F.state book.old) }
+    requires none_asked { HasNoRequests (view_of M.state P.state F.state book.old) }
     requires rings { is_virtual (view_of M.state P.state F.state book.old).tray.head.kind ≡ false }
     requires worked { IsWorked asked.now.event }
     requires may { may_ask (view_of M.state P.state F.state book.old).tray.head asked.now.event ≡ true }

@@ -1,2 +1,5 @@
 pub mod Things
 pub mod Stands
+pub mod Sweep
+pub mod Phases
+pub mod Handlers

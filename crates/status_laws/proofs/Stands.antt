@@ -1,25 +1,22 @@
 -- Each status on its way was sent there by a row.
-use Rattle.std.proofs.Common.{◌≡◌, not, List, [], ◌∷◌, ◌++◌, count_by, refl, ap, sym, subst, append_assoc}
+use Rattle.std.proofs.Common.{◌≡◌, List, [], ◌∷◌, ◌++◌, count_by, refl, ap, sym, subst, append_assoc}
 use Rattle.std.specs.List.{Contains}
 use Rattle.std.proofs.lemmas.List.Elements.{Contains-append_left, Contains-push}
 use Rattle.journal_types.specs.declared.Event.{Event}
 use Rattle.journal_types.specs.declared.Event.TheVariants as event
-use Rattle.journal_types.specs.declared.OutWay.TheVariants as out
-use Rattle.journal_types.specs.declared.PhaseOf.TheVariants as of
 use Rattle.journal_types.specs.declared.Reply.{Reply}
 use Rattle.journal_types.specs.declared.Reply.TheVariants as reply
 use Rattle.journal_types.specs.declared.Row.{Row}
 use Rattle.journal_types.specs.declared.Row.TheVariants as row
 use Rattle.journal_types.specs.declared.Turn.{Turn}
 use Rattle.stack_rules.specs.declared.Thing.{Thing}
-use Rattle.stack_rules.specs.declared.Thing.TheVariants as thing
-use Rattle.stack_rules.specs.Net.{Net, start, told, after, after_rows, after_turn, after_turns, is_list, is_status, had_by, taken_by, request_of, without_status}
+use Rattle.stack_rules.specs.Net.{Net, start, told, after, after_rows, after_turn, after_turns}
 use Rattle.stack_rules.specs.Pauses.{is_status_thing}
 use Rattle.home_laws.specs.Rows.{rows_of}
 use Rattle.place_laws.specs.Kept.{EachStatus}
 use Rattle.work_laws.proofs.Halted.{nothing_while_halted}
 use Rattle.status_laws.specs.Standing.{status_row, EachStatusStands}
-use Rattle.status_laws.proofs.Things.{each-implies, each-filter, each-append, each-changed, each-kept, each-passed, each-done}
+use Rattle.status_laws.proofs.Things.{each-implies, IsOfRow, each-after}
 
 -- the rows have sent each status on its way
 abbrev AreSent : List Row → List Thing → Type 0
@@ -28,30 +25,13 @@ AreSent rows ts = EachStatus (λ s. Contains rows (status_row s)) ts
 sent_more : (past rows : List Row) (ts : List Thing) → AreSent past ts → AreSent (past ++ rows) ts
 sent_more past rows ts h = each-implies (λ s. Contains past (status_row s)) (λ s. Contains (past ++ rows) (status_row s)) (λ s k. Contains-append_left past rows (status_row s) k) ts h
 
--- a row that sends no status
+-- the row itself sends its status
+sent_by : (rows : List Row) (r : Row) → Contains rows r → IsOfRow (λ s. Contains rows (status_row s)) r
+sent_by rows (row.Status number name to) here = here
+sent_by rows _ here = tt
+
 sent_after : (rows : List Row) (net : Net) (r : Row) → Contains rows r → AreSent rows net.things → AreSent rows (after net r).things
-sent_after rows net (row.Issue list owner config direction cancel origin frames) here h =
-    each-append (λ s. Contains rows (status_row s)) net.things _ h tt
-sent_after rows net (row.Give list m handler) here h = each-changed (λ s. Contains rows (status_row s)) list.0 (had_by m) net.things h
-sent_after rows net (row.Pass list way to) here h = each-passed (λ s. Contains rows (status_row s)) list.0 way to net.things h
-sent_after rows net (row.Keep list m) here h = each-kept (λ s. Contains rows (status_row s)) list.0 m net.things h
-sent_after rows net (row.TurnBack list m status) here h = each-changed (λ s. Contains rows (status_row s)) list.0 (had_by m) net.things h
-sent_after rows net (row.Home list owner status) here h = each-filter (λ s. Contains rows (status_row s)) (λ t. not (is_list list.0 t)) net.things h
-sent_after rows net (row.Wire list frames) here h = h
-sent_after rows net (row.Deliver list binding how frames) here h = h
-sent_after rows net (row.Phase (of.Module m s)) here h = h
-sent_after rows net (row.Phase (of.Stack p)) here h = h
-sent_after rows net (row.Config config filters) here h = h
-sent_after rows net (row.OidIssue request parent binding kind code value) here h = h
-sent_after rows net (row.OidGive request m) here h = h
-sent_after rows net (row.OidDone request status value) here h = each-done (λ s. Contains rows (status_row s)) (request_of request.0 net.requests) request status value net.things h
-sent_after rows net (row.Status number name to) here h =
-    each-append (λ s. Contains rows (status_row s)) (without_status number.0 net.things) (thing.Status (record { number = number; name = name; to = to }) ∷ [])
-    (each-filter (λ s. Contains rows (status_row s)) (λ t. not (is_status number.0 t)) net.things h) (here, tt)
-sent_after rows net (row.Seen number m) here h = each-filter (λ s. Contains rows (status_row s)) (λ t. not (is_status number.0 t)) net.things h
-sent_after rows net (row.CrossOut message (out.Down list) frames) here h = each-changed (λ s. Contains rows (status_row s)) list.0 (taken_by message.0) net.things h
-sent_after rows net (row.CrossOut message out.Up frames) here h = h
-sent_after rows net (row.CrossIn stack message way frames) here h = h
+sent_after rows net r here h = each-after (λ s. Contains rows (status_row s)) net r (sent_by rows r here) h
 
 nil_end : (xs : List Row) → xs ++ [] ≡ xs
 nil_end [] = refl
@@ -64,7 +44,7 @@ sent_rows past net (r ∷ rows) h =
     (sent_rows (past ++ r ∷ []) (after net r) rows (sent_after (past ++ r ∷ []) net r (Contains-push past r) (sent_more past (r ∷ []) net.things h)))
 
 -- what an event tells changes no thing
-told_things : (net : Net) (e : Event) (r : Reply) → (told net e r).things ≡ net.things
+pub told_things : (net : Net) (e : Event) (r : Reply) → (told net e r).things ≡ net.things
 told_things net (event.Insert kind position setup) (reply.Inserted f) = refl
 told_things net (event.Replace old kind setup) (reply.Replaced f) = refl
 told_things net (event.CrossTakeUp binding vlan) (reply.Taken message frames) = refl

@@ -1,10 +1,12 @@
--- The rows of each event that asks for no request and tells no status, where a stack has lists only: they tell of
--- no request and send no status.
+-- The rows of each event that asks for no request, where a stack has none: they tell of no request.
 use Rattle.std.proofs.Common.{◌≡◌, ℕ, ◌+◌, ◌&&◌, Bool, true, false, List, [], ◌∷◌, ◌++◌, Option, Some, None, map, filter, reverse, flat_map, refl, find, sym, subst}
 use Rattle.std.specs.List.{list_any}
 use Rattle.ndis_base.specs.declared.ModuleId.{ModuleId}
 use Rattle.ndis_base.specs.declared.ModuleId.TheVariants.{Miniport, Filter, Binding}
 use Rattle.ndis_base.specs.declared.ListNo.{ListNo}
+use Rattle.ndis_base.specs.declared.ModuleState.{ModuleState}
+use Rattle.ndis_base.specs.declared.StatusName.{StatusName}
+use Rattle.ndis_base.specs.declared.StatusNo.{StatusNo}
 use Rattle.ndis_base.specs.declared.ListStatus.{ListStatus}
 use Rattle.ndis_base.specs.declared.ListStatus.TheVariants.{Success, Resources, Dropped, Paused}
 use Rattle.ndis_base.specs.declared.Direction.{Direction}
@@ -25,7 +27,7 @@ use Rattle.stack_rules.specs.declared.LiveList.{LiveList}
 use Rattle.stack_rules.specs.declared.Attached.{Attached}
 use Rattle.stack_rules.specs.declared.Message.{Message}
 use Rattle.stack_rules.specs.declared.Choice.{Choice}
-use Rattle.stack_rules.specs.Tests.{phase_is_running, is_running, is_hold, is_virtual, is_retain, same_frames, same_module}
+use Rattle.stack_rules.specs.Tests.{phase_is_running, is_halted, is_running, is_hold, is_virtual, is_retain, same_frames, same_module}
 use Rattle.stack_rules.specs.Heads.{kind_of_binding, binding_numbers}
 use Rattle.stack_rules.specs.Net.{Net, Modules, attached, list_of, lists}
 use Rattle.stack_rules.specs.Places.{position, is_full, ready_lists, is_kept_by, agenda_first}
@@ -40,6 +42,7 @@ use Rattle.stack_rules.specs.Cancels.{cancel_outcome, cancel_rows_at, cancelled_
 use Rattle.stack_rules.specs.Drains.{returned_by, returns_all, passed_by, passes_all, empties, empties_ring, drain_rows, drained}
 use Rattle.stack_rules.specs.Pumps.{moved_rows, request_pump, pump_of, is_pump_moving}
 use Rattle.stack_rules.specs.Crosses.{first_uncrossed, take_of, done_of, take_up_of, is_too_long_tagged, mux_binding_for, is_in_message}
+use Rattle.stack_rules.specs.Statuses.{seen_by_all, status_rows}
 use Rattle.stack_rules.specs.Sound.{outcome}
 use Rattle.stack_rules.specs.declared.Thing.{Thing}
 use Rattle.stack_rules.specs.declared.Thing.TheVariants as thing
@@ -49,10 +52,10 @@ use Rattle.state_laws.proofs.Calm.{All-append, All-map, first_of_all}
 use Rattle.state_laws.proofs.Quiet.{is_plain}
 use Rattle.family_laws.proofs.Changes.{Every, every-append}
 use Rattle.family_laws.proofs.Configs.{changed_rows}
-use Rattle.unasked_laws.specs.Unasked.{is_unasked, HasListsOnly}
-use Rattle.unasked_laws.proofs.Things.{IsFree, first_is_list, gives_none}
+use Rattle.unasked_laws.specs.Unasked.{is_unasked, HasNoRequests}
+use Rattle.unasked_laws.proofs.Things.{IsFree, first_is_no_answer, gives_none}
 
--- rows that tell of no request and send no status
+-- rows that tell of no request
 abbrev pub AreFree : List Row → Type 0
 AreFree rows = Every IsFree rows
 
@@ -215,12 +218,21 @@ free_moved net l (stand.Passed (way.Done s) Bindings) keeps = tt
 free_moved net l (stand.Passed (way.Back s) (Module m)) keeps = free_homewards net l m s
 free_moved net l (stand.Passed (way.Back s) Bindings) keeps = tt
 
--- where a stack has lists only, a pump finds a list or nothing
-free_pump_of : (net : Net) (keeps : Bool) → HasListsOnly net → (o : Option Thing) → agenda_first net ≡ o → AreFree (pump_of net keeps o).rows
+-- statuses
+free_seen : (n : StatusNo) (b : ℕ) (ss : List ModuleState) → AreFree (seen_by_all n b ss)
+free_seen n b [] = tt
+free_seen n b (s ∷ ss) = (refl, free_seen n (b + 1) ss)
+
+free_status : (net : Net) (n : StatusNo) (name : StatusName) (to : Target) → AreFree (status_rows net n name to)
+free_status net n name (Module m) = (refl, (refl, tt))
+free_status net n name Bindings = free_seen n 0 net.modules.bindings
+
+-- where a stack has no requests, a pump finds a list, a status or nothing
+free_pump_of : (net : Net) (keeps : Bool) → HasNoRequests net → (o : Option Thing) → agenda_first net ≡ o → AreFree (pump_of net keeps o).rows
 free_pump_of net keeps h None e = subst (λ o. AreFree (request_pump net o).rows) (sym (gives_none net h)) tt
 free_pump_of net keeps h (Some (thing.List l)) e = free_moved net l l.stand keeps
-free_pump_of net keeps h (Some (thing.Status s)) e = absurd (first_is_list net (thing.Status s) h e)
-free_pump_of net keeps h (Some (thing.Answer a)) e = absurd (first_is_list net (thing.Answer a) h e)
+free_pump_of net keeps h (Some (thing.Status s)) e = free_status net s.number s.name s.to
+free_pump_of net keeps h (Some (thing.Answer a)) e = absurd (first_is_no_answer net (thing.Answer a) h e)
 
 -- drains
 free_returns : (net : Net) (b : ℕ) → AreFree (returns_all net b)
@@ -273,8 +285,8 @@ free_take_up net (Some m) = (refl, tt)
 free_change : (net : Net) (e : Event) (c : Choice) → is_plain e ≡ false → Free (outcome net e c)
 free_change net e c p = changed_rows IsFree (record { states = λ s m h. refl; stack = λ p. refl }) (λ config filters. refl) (λ f s. refl) net e c p
 
--- each event that asks for no request and tells no status, where a stack has lists only
-pub event_free : (net : Net) → HasListsOnly net → (e : Event) (c : Choice) → is_unasked e ≡ true → Free (outcome net e c)
+-- each event that asks for no request, where a stack has none
+pub event_free : (net : Net) → HasNoRequests net → (e : Event) (c : Choice) → is_unasked e ≡ true → Free (outcome net e c)
 event_free net h (event.Send binding cancel frames) c p =
     by_test Free (phase_is_running net.phase) _ _
     (λ _. by_test Free (is_full net (Binding binding)) _ _ (λ _. tt) (λ _. (refl, (refl, tt))))
@@ -291,7 +303,7 @@ event_free net h (event.Lend frames) c p =
 event_free net h (event.GiveBack binding list) c p = free_give_back net binding (list_of list.0 (lists net.things))
 event_free net h (event.Cancel id) c p = free_cancel net id
 event_free net h (event.Ask binding kind code value) c p = cc
-event_free net h (event.Status name) c p = cc
+event_free net h (event.Status name) c p = by_test Free (is_halted net.modules.miniport) _ _ (λ _. tt) (λ _. (refl, tt))
 event_free net h event.Transmit c p = free_transmit net (first_in_ring net)
 event_free net h event.Pump c p = free_pump_of net c.keeps h (agenda_first net) refl
 event_free net h event.Drain c p = by_test Free (is_pump_moving net) _ _ (λ _. free_pump_of net c.keeps h (agenda_first net) refl) (λ _. free_drained net)

@@ -9,4 +9,4 @@ returns-clause-ends g c =
     let begun = begun_by (pumped_phase c.requires.running c.in_ok-pump_all.ensures.pumped).phase_is c.in_ok-ask.ensures.turned in
     let paused = c.in_ok-pause_all.ensures.pauses in
     let pumped = c.in_ok-pump_all-2.ensures.pumped in
-    ends_in_all c.requires.running c.in_ok-pump_all.ensures.pumped begun paused pumped (halted_by (pumped_phase paused.now pumped) c.in_ok-ask-2.ensures.turned)
+    ends_in_all c.requires.running c.in_ok-pump_all.ensures.pumped begun paused pumped (halted_by (pumped_phase paused.now pumped) pumped.rests c.in_ok-ask-2.ensures.turned)

@@ -31,6 +31,7 @@ invariant_of-self c = record {
   ledger = c.self.invariant.ledger ∙ sym (ap bare (net_is c));
   within = tt;
   waits = waits_same (net_is c) c.self.invariant.waits;
+  asks = c.self.invariant.asks;
 }
 
 pub returns : goal.returns

@@ -23,6 +23,7 @@ invariant_of-self c = record {
   ledger = c.self.invariant.ledger ∙ sym (ap bare (net_is c));
   within = within_grown c.self.inside.journal.payloads c.copy_event.new.self.payloads c.self.inside.told c.copy_event.ensures.grows.payloads c.self.invariant.within;
   waits = waits_same (net_is c) c.self.invariant.waits;
+  asks = c.self.invariant.asks;
 }
 
 pub returns-clause-same : goal.returns-clause-same

@@ -22,6 +22,7 @@ invariant_of-self c = record {
   ledger = c.self.invariant.ledger ∙ sym (ap bare (net_is c));
   within = subst (λ (v : FlatView). ToldWithin v.payloads c.self.inside.told) (sym (journal_is c)) (within_framed c.self.inside.journal c.self.inside.told c.args.frames.now c.self.invariant.within);
   waits = waits_same (net_is c) c.self.invariant.waits;
+  asks = c.self.invariant.asks;
 }
 
 pub returns-clause-tray : goal.returns-clause-tray

@@ -8,7 +8,7 @@ use Rattle.waiting_lists.specs.Waiting.{WaitView}
 use Rattle.driver_tray.specs.Tray.{TrayView, issue_row, clone_issued}
 use Rattle.driver_tray.specs.Inside.{net_of, ToldWithin}
 use Rattle.driver_tray.specs.Waits.{HasWaits}
-use Rattle.driver_tray.proofs.Rows.{row_more, journal_written, net_written, shown_cloned, ledger_issued, span_count}
+use Rattle.driver_tray.proofs.Rows.{row_more, journal_written, net_written, shown_cloned, ledger_issued, span_count, asks_same}
 use Rattle.driver_tray.proofs.Waits.{waits_same, waits_cloned}
 use Rattle.driver_tray.proofs.tray.Tray.issue_clone.Goals as goal
 
@@ -34,6 +34,7 @@ invariant_of-self c =
       waits = waits_same (net_is c) (subst (λ (v : WaitView). HasWaits (after (net_of c.self.inside.journal c.self.inside.told) (row_now c)) v (c.self.inside.slack - 1)) (sym c.push_clone.ensures)
           (waits_cloned (net_of c.self.inside.journal c.self.inside.told) c.args.label c.args.original (frames_at c.self.inside.journal.payloads.frames c.args.span) c.self.inside.waits c.self.inside.slack
           (subst (λ (v : TrayView). c.args.label.number.0 ≡ v.net.next.list) (sym c.self.view_is) c.requires.number) c.requires.clone some c.self.invariant.waits));
+      asks = omega (arith, asks_same c.self.inside.ledger _ _ c.self.inside.slack c.issue.ensures c.self.invariant.asks);
     }
 
 pub returns : goal.returns

@@ -6,7 +6,7 @@ use Rattle.flat_journal.specs.Payloads.{Payloads}
 use Rattle.stack_rules.specs.Net.{after}
 use Rattle.driver_tray.specs.Tray.{TrayView, issue_row, written}
 use Rattle.driver_tray.specs.Inside.{net_of, ToldWithin}
-use Rattle.driver_tray.proofs.Rows.{row_more, journal_written, net_written, shown_written, ledger_issued, span_count}
+use Rattle.driver_tray.proofs.Rows.{row_more, journal_written, net_written, shown_written, ledger_issued, span_count, asks_same}
 use Rattle.driver_tray.proofs.Waits.{waits_same, waits_issued}
 use Rattle.driver_tray.proofs.tray.Tray.issue_held.Goals as goal
 
@@ -28,6 +28,7 @@ invariant_of-self c = record {
   within = subst (λ (p : Payloads). ToldWithin p c.self.inside.told) (sym c.write_issue.ensures.payloads) c.self.invariant.within;
   waits = waits_same (net_is c) (waits_issued (net_of c.self.inside.journal c.self.inside.told) c.args.label (frames_at c.self.inside.journal.payloads.frames c.args.span) c.self.inside.waits c.self.inside.slack
       (subst (λ (v : TrayView). c.args.label.number.0 ≡ v.net.next.list) (sym c.self.view_is) c.requires.number) c.requires.root c.self.invariant.waits);
+  asks = asks_same c.self.inside.ledger _ _ c.self.inside.slack c.issue.ensures c.self.invariant.asks;
 }
 
 pub returns : goal.returns

@@ -27,6 +27,7 @@ invariant_of-self c =
       ledger = c.self.invariant.ledger ∙ sym (ap bare e ∙ steady net c.self.inside.journal.payloads c.args.row c.requires.steady);
       within = subst (λ (p : Payloads). ToldWithin p c.self.inside.told) (sym c.write_row.ensures.payloads) c.self.invariant.within;
       waits = waits_written net _ c.self.inside.journal.payloads c.args.row c.self.inside.waits c.follow.new.waits c.self.inside.slack c.requires.steady e c.follow.ensures c.self.invariant.waits;
+      asks = c.self.invariant.asks;
     }
 
 pub returns : goal.returns

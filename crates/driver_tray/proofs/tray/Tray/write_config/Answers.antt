@@ -8,7 +8,7 @@ use Rattle.flat_journal.proofs.Grown.{grown_by_filters}
 use Rattle.stack_rules.specs.Net.{Net, after}
 use Rattle.driver_tray.specs.Tray.{TrayView, written, configured}
 use Rattle.driver_tray.specs.Inside.{net_of, shown_of, ToldWithin}
-use Rattle.driver_tray.proofs.Rows.{row_more, filters_more, journal_listed, journal_written, net_grown, net_written, within_grown, shown_grown, shown_written, ledger_noted}
+use Rattle.driver_tray.proofs.Rows.{row_more, filters_more, journal_listed, journal_written, net_grown, net_written, within_grown, shown_grown, shown_written, ledger_noted, asks_same}
 use Rattle.driver_tray.proofs.Waits.{waits_same, waits_configured}
 use Rattle.driver_tray.proofs.tray.Tray.write_config.Goals as goal
 
@@ -49,6 +49,7 @@ invariant_of-self c = record {
   ledger = ledger_noted c.self.inside.ledger _ (net_of c.self.inside.journal c.self.inside.told) _ (row_now c) c.self.invariant.ledger c.configure.ensures (net_is c);
   within = subst (λ (v : FlatView). ToldWithin v.payloads c.self.inside.told) (sym (journal_is c)) (within_grown c.self.inside.journal.payloads (mid c).payloads c.self.inside.told (grows c) c.self.invariant.within);
   waits = waits_same (net_is c) (waits_configured (net_of c.self.inside.journal c.self.inside.told) c.args.config c.args.filters.now c.self.inside.waits c.self.inside.slack c.self.invariant.waits);
+  asks = asks_same c.self.inside.ledger _ _ c.self.inside.slack c.configure.ensures c.self.invariant.asks;
 }
 
 pub returns : goal.returns

@@ -6,7 +6,7 @@ use Rattle.flat_journal.specs.Payloads.{Payloads}
 use Rattle.stack_rules.specs.Net.{after}
 use Rattle.driver_tray.specs.Tray.{TrayView, written}
 use Rattle.driver_tray.specs.Inside.{net_of, ToldWithin}
-use Rattle.driver_tray.proofs.Rows.{row_more, journal_written, net_written, shown_written, ledger_noted}
+use Rattle.driver_tray.proofs.Rows.{row_more, journal_written, net_written, shown_written, ledger_noted, asks_same}
 use Rattle.driver_tray.proofs.Waits.{waits_same, waits_phase}
 use Rattle.driver_tray.proofs.tray.Tray.write_phase.Goals as goal
 
@@ -26,6 +26,7 @@ invariant_of-self c = record {
   ledger = ledger_noted c.self.inside.ledger _ (net_of c.self.inside.journal c.self.inside.told) _ (row_now c) c.self.invariant.ledger c.enter.ensures (net_is c);
   within = subst (λ (p : Payloads). ToldWithin p c.self.inside.told) (sym c.write_row.ensures.payloads) c.self.invariant.within;
   waits = waits_same (net_is c) (waits_phase (net_of c.self.inside.journal c.self.inside.told) c.args.of c.self.inside.waits c.self.inside.slack c.self.invariant.waits);
+  asks = asks_same c.self.inside.ledger _ _ c.self.inside.slack c.enter.ensures c.self.invariant.asks;
 }
 
 pub returns : goal.returns

@@ -7,7 +7,7 @@ use Rattle.flat_journal.specs.Payloads.{Payloads}
 use Rattle.stack_rules.specs.Net.{after}
 use Rattle.driver_tray.specs.Tray.{TrayView, written}
 use Rattle.driver_tray.specs.Inside.{net_of, ToldWithin}
-use Rattle.driver_tray.proofs.Rows.{row_more, journal_written, net_written, shown_written, ledger_wired, span_count}
+use Rattle.driver_tray.proofs.Rows.{row_more, journal_written, net_written, shown_written, ledger_wired, span_count, asks_same}
 use Rattle.driver_tray.proofs.Waits.{waits_same, waits_wired}
 use Rattle.driver_tray.proofs.tray.Tray.write_wire.Goals as goal
 
@@ -28,6 +28,7 @@ invariant_of-self c = record {
       (span_count c.self.inside.journal.payloads.frames c.args.frames (subst (λ (v : TrayView). SpanWithin v.payloads.frames c.args.frames) (sym c.self.view_is) c.requires.within)) (net_is c);
   within = subst (λ (p : Payloads). ToldWithin p c.self.inside.told) (sym c.write_row.ensures.payloads) c.self.invariant.within;
   waits = waits_same (net_is c) (waits_wired (net_of c.self.inside.journal c.self.inside.told) c.args.list (frames_at c.self.inside.journal.payloads.frames c.args.frames) c.self.inside.waits c.self.inside.slack c.self.invariant.waits);
+  asks = asks_same c.self.inside.ledger _ _ c.self.inside.slack c.wire.ensures c.self.invariant.asks;
 }
 
 pub returns : goal.returns

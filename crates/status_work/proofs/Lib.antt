@@ -1,0 +1,5 @@
+pub mod Firsts
+pub mod Seen
+pub mod Heard
+pub mod Telling
+pub mod Indicated

@@ -1,0 +1,96 @@
+-- A status at a filter is worked as the rules have it.
+use Rattle.std.proofs.Common.{◌≡◌, ℕ, ◌≤◌, Bool, false, List, [], Some, slice_set, refl, sym, ap, ◌∙◌, subst, arith}
+use Rattle.std.proofs.lemmas.List.{set-get_or}
+use Rattle.std.proofs.lemmas.List.Elements.{All-nil}
+use Rattle.ndis_base.specs.declared.ModuleId.{ModuleId}
+use Rattle.ndis_base.specs.declared.ModuleId.TheVariants.{Filter}
+use Rattle.journal_types.specs.declared.Event.TheVariants as event
+use Rattle.journal_types.specs.declared.Reply.TheVariants as reply
+use Rattle.journal_types.specs.declared.Target.TheVariants.{Module}
+use Rattle.buffer_pools.specs.Views.{PoolView}
+use Rattle.stack_rules.specs.declared.StatusAway.{StatusAway}
+use Rattle.stack_rules.specs.declared.Thing.TheVariants as thing
+use Rattle.stack_rules.specs.Net.{Net}
+use Rattle.stack_rules.specs.Outcome.{Outcome}
+use Rattle.stack_rules.specs.Places.{agenda_first}
+use Rattle.stack_rules.specs.Pumps.{pump_of, pump_outcome}
+use Rattle.stack_rules.specs.Statuses.{status_rows}
+use Rattle.promise_rules.specs.declared.Called.TheVariants as called
+use Rattle.driver_views.specs.States.{FilterState, called_for}
+use Rattle.hand_lemmas.specs.Hands.{Hands}
+use Rattle.driver_tray.specs.Tray.{TrayView, seen_at, status_from, indicated, first_status}
+use Rattle.book_lemmas.specs.Called.{SitsAt, filter_called}
+use Rattle.book_lemmas.specs.Stands.{IsCarriedSized}
+use Rattle.book_lemmas.specs.Views.{BookView, HeldView, no_pool, filter_at, pool_at, seat_of, hands_of}
+use Rattle.book_lemmas.proofs.Called.{sits_at, filter_is_called, filter_leaves}
+use Rattle.call_lemmas.specs.InCall.{InCall}
+use Rattle.call_lemmas.proofs.Ends.{enters}
+use Rattle.call_lemmas.proofs.Served.{counts_call, did_filter}
+use Rattle.call_lemmas.proofs.Statuses.{in_seen, in_status}
+use Rattle.book_parts.specs.Events.{IsBook, IsIdle}
+use Rattle.book_parts.proofs.Events.{Begins, begins_roomed, begins_called, begins_stands, did_event, ends_call}
+use Rattle.binding_work.proofs.Sending.{IsDone, any_choice}
+use Rattle.filter_work.specs.Works.{called_with}
+use Rattle.status_work.specs.Works.{SeesFirst}
+use Rattle.status_work.proofs.Firsts.{first_away}
+
+-- what the rules say of it
+pub pump_is : (net : Net) (keeps : Bool) (s : StatusAway) → agenda_first net ≡ Some (thing.Status s) → pump_outcome net keeps ≡ record { reply = reply.Moved; rows = status_rows net s.number s.name s.to }
+pump_is net keeps s first = ap (pump_of net keeps) first
+
+-- only the driver of a filter changed
+abbrev pub filter_heard : HeldView → ℕ → FilterState → HeldView
+filter_heard held place s = record held { filters = slice_set held.filters place s }
+
+-- its pool is what it was
+same_pool : (held : HeldView) (place : ℕ) (s : FilterState) → filter_called held place s (pool_at held.filter_pools (Some place)) ≡ filter_heard held place s
+same_pool held place s = ap (λ ps. record held { filters = slice_set held.filters place s; filter_pools = ps }) (set-get_or held.filter_pools place no_pool)
+
+-- the driver that counted a status
+abbrev heard : FilterState → FilterState
+heard s = record s { did = called_for called.Status s.did }
+
+seen_done : (old : BookView) (t : TrayView) (x : StatusAway) (f place : ℕ) → IsBook old → IsIdle old → first_status old.tray.queue ≡ Some x → x.to ≡ Module (Filter f) → seat_of old.held.seats f ≡ Some place
+    → Begins old.tray t [] → 1 ≤ t.room.turns
+    → IsDone old (record { tray = indicated (seen_at (record t { caller = Filter f }) x.number (Filter f)) x.number x.name; held = filter_heard old.held place (heard (filter_at old.held.filters (Some place))) }) event.Pump reply.Moved
+seen_done old t x f place k i first to seat begins turns =
+    let m : ModuleId = Filter f in
+    let net : Net = old.tray.net in
+    let pool : PoolView = pool_at old.held.filter_pools (Some place) in
+    let s : FilterState = filter_at old.held.filters (Some place) in
+    let b : TrayView = called_with t f pool in
+    let h : Hands = hands_of b.queue old.held [] in
+    let g : Begins old.tray b [] = begins_called m pool begins in
+    let stands = begins_stands k g in
+    let entered = enters b old.held m [] [] stands refl (ap (pool_at old.held.filter_pools) (sym seat)) (All-nil IsCarriedSized) stands.sized.carried in
+    let begin = subst (λ o. InCall b h m [] [] [] b (record { front = []; loose = []; kept = (filter_at old.held.filters o).kept })) seat entered in
+    let seen : TrayView = seen_at b x.number m in
+    let left : TrayView = indicated seen x.number x.name in
+    let done = in_status (status_from seen x.number x.name) (in_seen x.number begin) in
+    let sits : SitsAt old.held f place = sits_at stands f place seat in
+    let held : HeldView = filter_called old.held place (heard s) pool in
+    let ends = ends_call held t.pool k g done (filter_is_called old.held f place (heard s) pool sits)
+    (filter_leaves old.held f place (heard s) pool sits refl refl done.size done.bytes) k.stands.ring
+    (did_filter old.held place (heard s) pool done sits (refl, tt) (counts_call m called.Status s.did) refl (omega arith)) in
+    let outcome_is = pump_is net false x (first_away old x k first) in
+    let rows = status_rows b.net x.number x.name (Module m) in
+    let all : IsDone old (record { tray = record left { pool = t.pool }; held = held }) event.Pump reply.Moved = record {
+      did = did_event old _ rows event.Pump any_choice reply.Moved k i ends (sym (ap (λ (o : Outcome). o.reply) outcome_is))
+          (ap (λ (n : Net). status_rows n x.number x.name (Module m)) g.net ∙ ap (status_rows net x.number x.name) (sym to) ∙ sym (ap (λ (o : Outcome). o.rows) outcome_is)) refl tt (refl, refl);
+      turn = record { room = omega (arith, turns, done.used.turns) };
+    } in
+    subst (λ (q : HeldView). IsDone old (record { tray = record left { pool = t.pool }; held = q }) event.Pump reply.Moved) (same_pool old.held place (heard s)) all
+
+book_is : {new : BookView} {t : TrayView} {h : HeldView} → new.tray ≡ t → new.held ≡ h → record { tray = t; held = h } ≡ new
+book_is {new} {t} {h} e f = ap (λ x. record { tray = x; held = h }) (sym e) ∙ ap (λ x. record { tray = new.tray; held = x }) (sym f)
+
+-- the filter at the place saw it
+pub seen_event : (old new : BookView) (x : StatusAway) (f place : ℕ) (s' : FilterState) → IsBook old → IsIdle old → first_status old.tray.queue ≡ Some x → x.to ≡ Module (Filter f) → seat_of old.held.seats f ≡ Some place
+    → SeesFirst f x (filter_at old.held.filters (Some place)) old.tray s' new.tray → new.held ≡ filter_heard old.held place s' → IsDone old new event.Pump reply.Moved
+seen_event old new x f place s' k i first to seat d held =
+    subst (λ (v : BookView). IsDone old v event.Pump reply.Moved) (book_is d.sees.tray (held ∙ ap (filter_heard old.held place) d.sees.same))
+    (seen_done old d.begun x f place k i first to seat (begins_roomed old.tray d.begun d.roomed.same d.roomed.covers d.roomed.slack) d.turns)
+
+-- the view with other filters
+pub heard_at : (held : HeldView) (place : ℕ) (s : FilterState) (filters : List FilterState) → filters ≡ slice_set held.filters place s → record held { filters = filters } ≡ filter_heard held place s
+heard_at held place s filters e = ap (λ fs. record held { filters = fs }) e
