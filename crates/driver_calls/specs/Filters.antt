@@ -1,16 +1,19 @@
 -- What a filter does when it is called, in hand (WDK, "Sending Data from a Filter Driver", "Receiving Data in a Filter
 -- Driver", "Canceling a Send Request in a Filter Driver").
-use Rattle.std.specs.Prelude.{◌≡◌, ◌≢◌, ℕ, ◌==◌, ◌<◌, ◌^◌, ◌&&◌, not, Bool, true, false, List, [], ◌∷◌, ◌++◌, Option, Some, None, IsSome, find, filter, if◌then◌else◌}
+use Rattle.std.specs.Prelude.{◌≡◌, ◌≢◌, ℕ, ◌==◌, ◌<◌, ◌≤◌, ◌^◌, ◌&&◌, not, Bool, true, false, List, [], ◌∷◌, ◌++◌, Option, Some, None, IsSome, find, filter, length, if◌then◌else◌}
 use Rattle.ndis_base.specs.declared.Direction.{Direction}
 use Rattle.ndis_base.specs.declared.ListStatus.{ListStatus}
 use Rattle.ndis_base.specs.declared.ListStatus.TheVariants.{Dropped, Resources, Aborted}
 use Rattle.ndis_base.specs.declared.Origin.{Origin}
 use Rattle.ndis_base.specs.declared.Origin.TheVariants as origin
+use Rattle.ndis_base.specs.declared.OidNo.{OidNo}
+use Rattle.ndis_base.specs.declared.OidStatus.{OidStatus}
 use Rattle.ndis_base.specs.declared.StatusName.{StatusName}
 use Rattle.ndis_base.specs.declared.StatusNo.{StatusNo}
 use Rattle.program_types.specs.Apply.{applied}
 use Rattle.journal_types.specs.declared.Setup.{Setup}
 use Rattle.buffer_pools.specs.Views.{ListView, PoolView, IsOf, Issues, Frees, live_count}
+use Rattle.stack_rules.specs.declared.Request.{Request}
 use Rattle.stack_rules.specs.Net.{Net}
 use Rattle.stack_rules.specs.Tests.{is_down, is_hold, same_frames, same_number}
 use Rattle.stack_rules.specs.Outcome.{max_frame}
@@ -20,7 +23,7 @@ use Rattle.promise_rules.specs.declared.Called.TheVariants as called
 use Rattle.agenda_items.specs.Waits.{waits_at}
 use Rattle.hand_lemmas.specs.Frames.{AreSized}
 use Rattle.driver_views.specs.States.{FilterState, IsRisen, called_for}
-use Rattle.driver_tray.specs.Tray.{TrayView, turned_back, passed_on, passed_back, noted, clone_label, cloned_on, spent, each_turned_back, each_passed_on, Copies, indicated}
+use Rattle.driver_tray.specs.Tray.{TrayView, turned_back, passed_on, passed_back, noted, clone_label, cloned_on, spent, each_turned_back, each_passed_on, Copies, indicated, forwarded, completed}
 use Rattle.driver_calls.specs.declared.fates.LentFate.{LentFate}
 use Rattle.driver_calls.specs.declared.fates.LentFate.TheVariants as fate
 use Rattle.driver_calls.specs.Rooms.{CanCount, HasRoomFor, HasRoomForNew, HasRoomForAll}
@@ -160,3 +163,32 @@ pub record MaySee (s : FilterState) (t : TrayView) : Type 0 where
 pub record IsSeenBy (s : FilterState) (number : StatusNo) (name : StatusName) (t : TrayView) (s' : FilterState) (t' : TrayView) : Type 0 where
   pub same : s' ≡ record s { did = called_for called.Status s.did }
   pub tray : t' ≡ indicated t number name
+
+-- room for a row of a request with its value, and for one more answer
+pub record HasRoomForValue (value : List ℕ) (t : TrayView) : Type 0 where
+  pub room : HasRoomFor 1 1 t
+  pub frame_room : 1 ≤ t.room.frames
+  pub byte_room : length value ≤ t.room.bytes
+
+-- a request may be given to it
+pub record MayForward (s : FilterState) (r : Request) (t : TrayView) : Type 0 where
+  pub setup : IsSome s.setup
+  pub count : CanCount called.Oid s.did.served
+  pub room : HasRoomForValue r.value t
+  pub low : t.net.next.request < 2 ^ 60
+
+-- it counts the call and forwards the request by a clone (WDK, "Filter Module OID Requests")
+pub record IsForwarded (s : FilterState) (r : Request) (t : TrayView) (s' : FilterState) (t' : TrayView) : Type 0 where
+  pub same : s' ≡ record s { did = called_for called.Oid s.did }
+  pub tray : t' ≡ forwarded t r
+
+-- the clone of a request that was given to it may be told done
+pub record MayFinish (s : FilterState) (value : List ℕ) (t : TrayView) : Type 0 where
+  pub setup : IsSome s.setup
+  pub count : CanCount called.OidComplete s.did.served
+  pub room : HasRoomForValue value t
+
+-- it counts the call and completes the request with the clone's status and value
+pub record IsFinished (s : FilterState) (request : OidNo) (status : OidStatus) (value : List ℕ) (t : TrayView) (s' : FilterState) (t' : TrayView) : Type 0 where
+  pub same : s' ≡ record s { did = called_for called.OidComplete s.did }
+  pub tray : t' ≡ completed t request status value

@@ -7,11 +7,14 @@ use Rattle.ndis_base.specs.declared.ListStatus.{ListStatus}
 use Rattle.ndis_base.specs.declared.ListStatus.TheVariants.{Success, Resources}
 use Rattle.journal_types.specs.declared.PortSetup.{PortSetup}
 use Rattle.buffer_pools.specs.Views.{ListView, PoolView, IsOf, Frees, live_count}
+use Rattle.stack_rules.specs.declared.Request.{Request}
 use Rattle.stack_rules.specs.Tests.{is_loop, is_virtual}
+use Rattle.stack_rules.specs.OidTable.{report_of}
 use Rattle.promise_rules.specs.declared.Called.TheVariants as called
 use Rattle.hand_lemmas.specs.Frames.{AreSized}
 use Rattle.driver_views.specs.States.{MiniportState, IsRisen, called_for, logs}
 use Rattle.driver_tray.specs.Tray.{TrayView, turned_back, passed_back, noted, wired, spent, Starts}
+use Rattle.driver_calls.specs.declared.answers.OidAnswer.{OidAnswer}
 use Rattle.driver_calls.specs.Rooms.{CanCount, HasRoomFor, HasRoomForAll}
 use Rattle.driver_calls.specs.Filters.{Cancels}
 
@@ -90,3 +93,14 @@ pub record MayCancel (s : MiniportState) (t : TrayView) : Type 0 where
 pub record IsCancelled (s : MiniportState) (id : ℕ) (t : TrayView) (s' : MiniportState) (t' : TrayView) : Type 0 where
   pub same : s' ≡ record s { kept = s'.kept }
   pub by : Cancels s.kept id t s'.kept t'
+
+-- a request may be given to it
+pub record MayAnswer (s : MiniportState) : Type 0 where
+  pub port : IsSome s.port
+  pub count : CanCount called.Oid s.did.served
+
+-- it counts the call and answers by the table of OIDs
+pub record IsAnswered (s : MiniportState) (r : Request) (t : TrayView) (answer : OidAnswer) (s' : MiniportState) : Type 0 where
+  pub same : s' ≡ record s { did = called_for called.Oid s.did }
+  pub status : answer.status ≡ (report_of t.net r).status
+  pub value : answer.value ≡ (report_of t.net r).value

@@ -81,3 +81,7 @@ pub record IsDrained (s : ProtocolState) (t : TrayView) (s' : ProtocolState) (t'
 -- it counts a status that is indicated to it, and does nothing else
 pub record HearsStatus (s s' : ProtocolState) : Type 0 where
   pub same : s' ≡ record s { did = called_for called.Status s.did }
+
+-- it counts a request of its own that is done, and does nothing else
+pub record HearsAnswer (s s' : ProtocolState) : Type 0 where
+  pub same : s' ≡ record s { did = called_for called.OidComplete s.did }

@@ -5,7 +5,7 @@ ghost use Rattle.promise_rules.specs.declared.Called.TheVariants as called;
 ghost use Rattle.driver_views.specs.States.{FilterState};
 ghost use Rattle.driver_calls.specs.declared.fates.LentFate.TheVariants.{Left};
 ghost use Rattle.driver_calls.specs.declared.faults.AttachFault.TheVariants.{Refused, Memory};
-ghost use Rattle.driver_calls.specs.Filters.{MayHandle, IsHandled, MayComplete, IsCompleted, MayGiveAll, IsCancelled, IsDrained, MayAttach, Refuses, IsLentTo, MaySee, IsSeenBy};
+ghost use Rattle.driver_calls.specs.Filters.{MayHandle, IsHandled, MayComplete, IsCompleted, MayGiveAll, IsCancelled, IsDrained, MayAttach, Refuses, IsLentTo, MaySee, IsSeenBy, MayForward, IsForwarded, MayFinish, IsFinished};
 
 use crate::fates::LentFate;
 use crate::faults::AttachFault;
@@ -13,7 +13,10 @@ use buffer_pools::BufferList;
 use driver_tray::Tray;
 use driver_views::Served;
 use journal_types::Setup;
-use ndis_base::{FilterKind, ListStatus, OutOfMemory, StatusName, StatusNo};
+use ndis_base::{
+    FilterKind, ListStatus, OidNo, OidStatus, OidValue, OutOfMemory, StatusName, StatusNo,
+};
+use stack_rules::Request;
 use std::alloc::Global;
 
 /// A filter driver (WDK, "NDIS Filter Drivers"), as its author writes it.
@@ -88,6 +91,17 @@ pub trait FilterDriver: Send + Drop {
     fn status(&mut self, number: StatusNo, name: StatusName, tray: &mut Tray)
         requires may { MaySee (state self.old) tray.old }
         ensures { IsSeenBy (state self.old) number name tray.old (state self.new) tray.new };
+
+    /// A request is given to it, which it forwards by a clone (WDK, "FilterOidRequest").
+    fn oid(&mut self, request: &Request, tray: &mut Tray)
+        requires may { MayForward (state self.old) request.now tray.old }
+        ensures { IsForwarded (state self.old) request.now tray.old (state self.new) tray.new };
+
+    /// The clone by which it forwarded a request is done: it completes the request with the clone's status and
+    /// value (WDK, "FilterOidRequestComplete").
+    fn oid_complete(&mut self, request: OidNo, status: OidStatus, value: &OidValue, tray: &mut Tray)
+        requires may { MayFinish (state self.old) value.now tray.old }
+        ensures { IsFinished (state self.old) request status value.now tray.old (state self.new) tray.new };
 
     /// Turns back the sends that it keeps ready under an identifier (WDK, "FilterCancelSendNetBufferLists").
     fn cancel(&mut self, id: u32, tray: &mut Tray)
@@ -186,6 +200,17 @@ pub trait FilterCalls: Drop {
         requires may { MaySee (state self.old) tray.old }
         ensures { IsSeenBy (state self.old) number name tray.old (state self.new) tray.new };
 
+    /// A request is given to it, which it forwards by a clone (WDK, "FilterOidRequest").
+    fn oid(&mut self, request: &Request, tray: &mut Tray)
+        requires may { MayForward (state self.old) request.now tray.old }
+        ensures { IsForwarded (state self.old) request.now tray.old (state self.new) tray.new };
+
+    /// The clone by which it forwarded a request is done: it completes the request with the clone's status and
+    /// value (WDK, "FilterOidRequestComplete").
+    fn oid_complete(&mut self, request: OidNo, status: OidStatus, value: &OidValue, tray: &mut Tray)
+        requires may { MayFinish (state self.old) value.now tray.old }
+        ensures { IsFinished (state self.old) request status value.now tray.old (state self.new) tray.new };
+
     /// Turns back the sends that it keeps ready under an identifier (WDK, "FilterCancelSendNetBufferLists").
     fn cancel(&mut self, id: u32, tray: &mut Tray)
         requires { MayGiveAll (state self.old) tray.old }
@@ -261,6 +286,20 @@ impl FilterCalls for Box<dyn FilterDriver> {
 
     fn status(&mut self, number: StatusNo, name: StatusName, tray: &mut Tray) {
         (**self).status(number, name, tray);
+    }
+
+    fn oid(&mut self, request: &Request, tray: &mut Tray) {
+        (**self).oid(request, tray);
+    }
+
+    fn oid_complete(
+        &mut self,
+        request: OidNo,
+        status: OidStatus,
+        value: &OidValue,
+        tray: &mut Tray,
+    ) {
+        (**self).oid_complete(request, status, value, tray);
     }
 
     fn cancel(&mut self, id: u32, tray: &mut Tray) {

@@ -3,12 +3,14 @@
 //! which books are written, which the first one's box implements.
 #![tactic(auto)]
 
+pub mod answers;
 pub mod fates;
 pub mod faults;
 pub mod filter;
 pub mod miniport;
 pub mod protocol;
 
+pub use crate::answers::OidAnswer;
 pub use crate::fates::LentFate;
 pub use crate::faults::AttachFault;
 pub use crate::filter::{FilterCalls, FilterDriver};

@@ -2,14 +2,16 @@
 ghost use Rattle.std.specs.Prelude.{◌≡◌, ℕ, ◌≤◌, ◌<◌, [], None, Some, OnOk, IfErr, length, slice_index_or};
 ghost use Rattle.driver_views.specs.States.{MiniportState};
 ghost use Rattle.driver_calls.specs.declared.faults.AttachFault.TheVariants.{Refused, Memory};
-ghost use Rattle.driver_calls.specs.Miniports.{MayInitialize, Refuses, MaySend, IsQueued, MayReturn, IsReturned, MayTransmit, IsTransmitted, MayCancel, IsCancelled};
+ghost use Rattle.driver_calls.specs.Miniports.{MayInitialize, Refuses, MaySend, IsQueued, MayReturn, IsReturned, MayTransmit, IsTransmitted, MayCancel, IsCancelled, MayAnswer, IsAnswered};
 
+use crate::answers::OidAnswer;
 use crate::faults::AttachFault;
 use buffer_pools::BufferList;
 use driver_tray::Tray;
 use driver_views::Served;
 use journal_types::PortSetup;
 use ndis_base::{ListNo, ListStatus, MiniportKind, OutOfMemory};
+use stack_rules::Request;
 use std::alloc::Global;
 
 /// A miniport driver (WDK, "Writing NDIS Miniport Drivers"), as its author writes it. Its wire log is a
@@ -60,6 +62,11 @@ pub trait MiniportDriver: Send + Drop {
     fn returned(&mut self, list: BufferList, status: ListStatus, tray: &mut Tray)
         requires { MayReturn (state self.old) list tray.old }
         ensures { IsReturned (state self.old) list status tray.old (state self.new) tray.new };
+
+    /// A request is given to it (WDK, "MiniportOidRequest"): its answer, by the table of OIDs.
+    fn oid(&mut self, request: &Request, tray: &Tray) -> OidAnswer
+        requires may { MayAnswer (state self.old) }
+        ensures { IsAnswered (state self.old) request.now tray.now result (state self.new) };
 
     /// Turns back the sends that it keeps ready under an identifier (WDK, "MiniportCancelSend").
     fn cancel(&mut self, id: u32, tray: &mut Tray)
@@ -145,6 +152,11 @@ pub trait MiniportCalls: Drop {
         requires { MayReturn (state self.old) list tray.old }
         ensures { IsReturned (state self.old) list status tray.old (state self.new) tray.new };
 
+    /// A request is given to it (WDK, "MiniportOidRequest"): its answer, by the table of OIDs.
+    fn oid(&mut self, request: &Request, tray: &Tray) -> OidAnswer
+        requires may { MayAnswer (state self.old) }
+        ensures { IsAnswered (state self.old) request.now tray.now result (state self.new) };
+
     /// Turns back the sends that it keeps ready under an identifier (WDK, "MiniportCancelSend").
     fn cancel(&mut self, id: u32, tray: &mut Tray)
         requires { MayCancel (state self.old) tray.old }
@@ -216,6 +228,10 @@ impl MiniportCalls for Box<dyn MiniportDriver> {
 
     fn returned(&mut self, list: BufferList, status: ListStatus, tray: &mut Tray) {
         (**self).returned(list, status, tray);
+    }
+
+    fn oid(&mut self, request: &Request, tray: &Tray) -> OidAnswer {
+        (**self).oid(request, tray)
     }
 
     fn cancel(&mut self, id: u32, tray: &mut Tray) {

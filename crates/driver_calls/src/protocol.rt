@@ -3,13 +3,15 @@ ghost use Rattle.std.specs.Prelude.{◌≡◌, ℕ, ◌≤◌, ◌<◌, [], true
 ghost use Rattle.promise_rules.specs.declared.Called.TheVariants as called;
 ghost use Rattle.driver_views.specs.States.{ProtocolState};
 ghost use Rattle.driver_calls.specs.Rooms.{CanCount, HasRoomFor, HasRoomForAll};
-ghost use Rattle.driver_calls.specs.Protocols.{MayOpen, IsSentHome, MayReceive, IsReceived, IsLent, IsGivenBack, IsDrained, HearsStatus};
+ghost use Rattle.driver_calls.specs.Protocols.{MayOpen, IsSentHome, MayReceive, IsReceived, IsLent, IsGivenBack, IsDrained, HearsStatus, HearsAnswer};
 
 use buffer_pools::BufferList;
 use driver_tray::Tray;
 use driver_views::Served;
 use frame_arena::FrameSpan;
-use ndis_base::{ListNo, ListStatus, OutOfMemory, ProtocolKind, StatusName};
+use ndis_base::{
+    ListNo, ListStatus, OidNo, OidStatus, OidValue, OutOfMemory, ProtocolKind, StatusName,
+};
 use std::alloc::Global;
 
 /// A protocol driver (WDK, "NDIS Protocol Drivers"), as its author writes it. Its log is a list of lists
@@ -69,6 +71,11 @@ pub trait ProtocolDriver: Send + Drop {
     fn status(&mut self, name: StatusName)
         requires { CanCount called.Status (state self.old).did.served }
         ensures { HearsStatus (state self.old) (state self.new) };
+
+    /// A request of its binding is done (WDK, "ProtocolOidRequestComplete").
+    fn oid_complete(&mut self, request: OidNo, status: OidStatus, value: &OidValue)
+        requires { CanCount called.OidComplete (state self.old).did.served }
+        ensures { HearsAnswer (state self.old) (state self.new) };
 
     /// Passes back a list that it keeps (WDK, "NdisReturnNetBufferLists"), and answers whether it keeps it.
     fn give_back(&mut self, list: ListNo, tray: &mut Tray) -> bool
@@ -161,6 +168,11 @@ pub trait ProtocolCalls: Drop {
         requires { CanCount called.Status (state self.old).did.served }
         ensures { HearsStatus (state self.old) (state self.new) };
 
+    /// A request of its binding is done (WDK, "ProtocolOidRequestComplete").
+    fn oid_complete(&mut self, request: OidNo, status: OidStatus, value: &OidValue)
+        requires { CanCount called.OidComplete (state self.old).did.served }
+        ensures { HearsAnswer (state self.old) (state self.new) };
+
     /// Passes back a list that it keeps (WDK, "NdisReturnNetBufferLists"), and answers whether it keeps it.
     fn give_back(&mut self, list: ListNo, tray: &mut Tray) -> bool
         requires { HasRoomFor 1 1 tray.old }
@@ -234,6 +246,10 @@ impl ProtocolCalls for Box<dyn ProtocolDriver> {
 
     fn status(&mut self, name: StatusName) {
         (**self).status(name);
+    }
+
+    fn oid_complete(&mut self, request: OidNo, status: OidStatus, value: &OidValue) {
+        (**self).oid_complete(request, status, value);
     }
 
     fn give_back(&mut self, list: ListNo, tray: &mut Tray) -> bool {
