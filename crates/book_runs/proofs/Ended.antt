@@ -1,5 +1,5 @@
 -- The ending.
-use Rattle.std.proofs.Common.{◌≡◌, ◌⊎◌, inl, inr, ℕ, Some, None, refl, sym, ap, ◌∙◌, subst}
+use Rattle.std.proofs.Common.{◌≡◌, ◌⊎◌, inl, inr, ℕ, false, [], Some, refl, sym, ap, ◌∙◌, subst}
 use Rattle.ndis_base.specs.declared.Phase.{Phase}
 use Rattle.ndis_base.specs.declared.Phase.TheVariants as phase
 use Rattle.ndis_base.specs.declared.Who.TheVariants as who
@@ -11,21 +11,20 @@ use Rattle.promise_rules.specs.declared.Ending.TheVariants as ending
 use Rattle.promise_rules.specs.Own.{ending_of, ending_event, ending_after}
 use Rattle.stack_rules.specs.Net.{Net, seen}
 use Rattle.stack_rules.specs.Pauses.{halt_items}
-use Rattle.stack_rules.specs.Places.{agenda_first}
-use Rattle.unasked_laws.proofs.Things.{halt_items_none}
-use Rattle.unasked_laws.proofs.Unasked.{each_has_no_requests}
+use Rattle.stack_rules.specs.Tests.{phase_is_halted, phase_is_paused}
 use Rattle.run_laws.specs.Turns.{LeadsTo}
-use Rattle.run_laws.proofs.Ending.{halts}
+use Rattle.run_laws.proofs.Ending.{halts, nothing_waits}
 use Rattle.run_laws.proofs.Pausing.{begins}
 use Rattle.book_lemmas.specs.Views.{BookView}
 use Rattle.book_runs.specs.Adds.{AddsTurns, ArePauses, ArePumps, EndsTo}
-use Rattle.book_runs.specs.Runs.{IsInPhase, IsRestarting, Turned, PumpedAll, PausesAll, RestartsAll, EndsStack}
+use Rattle.book_runs.specs.Runs.{IsAtRest, IsInPhase, IsRestarting, KeepsNone, Turned, PumpedAll, PausesAll, RestartsAll, EndsStack}
 use Rattle.book_runs.proofs.Added.{one_of, none_added, ends_by, ends_then, leads_paused, leads_until}
-use Rattle.book_runs.proofs.Pumped.{phase_after}
+use Rattle.book_runs.proofs.Pumped.{phase_after, keeps_by}
 
 -- a stack that runs begins to pause
 pub record IsBegun (old new : BookView) : Type 0 where
   pub now : IsInPhase new phase.Pausing
+  pub keeps : KeepsNone old new
   pub added : AddsTurns (EndsTo ending.BeginningPause ending.Pausing) old new
 
 pub begun_by : {old new : BookView} {r : Reply} → old.tray.net.phase ≡ phase.Running → Turned old new who.Own event.BeginPause r → IsBegun old new
@@ -34,6 +33,7 @@ begun_by {old} {new} {r} at t =
     let told : r ≡ reply.Ok = sym t.told.told ∙ l.reply in
     record {
       now = record { between = t.between; phase_is = phase_after t l.phase };
+      keeps = keeps_by refl t;
       added = ends_by ending.BeginningPause ending.Pausing event.BeginPause r refl (ap (ending_after ending.BeginningPause) told) (one_of t);
     }
 
@@ -42,10 +42,10 @@ pub record IsOver (old new : BookView) : Type 0 where
   pub now : IsInPhase new phase.Halted
   pub added : AddsTurns (EndsTo ending.Halting ending.Ended) old new
 
-pub halted_by : {old new : BookView} {r : Reply} → IsInPhase old phase.Paused → agenda_first old.tray.net ≡ None → Turned old new who.Own event.Halt r → IsOver old new
-halted_by {old} {new} {r} at rests t =
+pub halted_by : {old new : BookView} {r : Reply} → IsInPhase old phase.Paused → old.tray.net.things ≡ [] → old.tray.net.requests ≡ [] → Turned old new who.Own event.Halt r → IsOver old new
+halted_by {old} {new} {r} at things requests t =
     let none : halt_items (seen old.tray.head old.tray.turns) ≡ 0 =
-    halt_items_none _ (each_has_no_requests old.tray.head old.tray.turns t.sound at.between.unasked) (subst (λ (n : Net). agenda_first n ≡ None) t.before rests) in
+    nothing_waits _ (subst (λ (n : Net). n.things ≡ []) t.before things) (subst (λ (n : Net). n.requests ≡ []) t.before requests) in
     let l : LeadsTo (seen old.tray.head old.tray.turns) t.turn reply.Halted phase.Halted =
     halts old.tray.head old.tray.turns t.turn t.sound t.bound t.next t.told.what (sym (ap (λ (n : Net). n.phase) t.before) ∙ at.phase_is) none in
     record {
@@ -56,6 +56,10 @@ halted_by {old} {new} {r} at rests t =
 -- pumps leave the phase
 pub pumped_phase : {old new : BookView} {at : Phase} → IsInPhase old at → PumpedAll who.Own old new → IsInPhase new at
 pumped_phase k p = record { between = p.between; phase_is = p.phase_is ∙ k.phase_is }
+
+-- no request is left where a stack that runs was pumped until nothing moved
+pub none_left : {v : BookView} → IsInPhase v phase.Running → IsAtRest v → v.tray.net.requests ≡ []
+none_left {v} k r = r.requests (ap phase_is_paused k.phase_is) (ap phase_is_halted k.phase_is)
 
 -- pumps and pauses of the stack itself
 pumps_add : {x y : BookView} (a b : Ending) → ending_event a ≡ Some event.Pump → ending_after a reply.Moved ≡ a → ending_after a reply.Idle ≡ b → AddsTurns (ArePumps who.Own) x y → AddsTurns (EndsTo a b) x y

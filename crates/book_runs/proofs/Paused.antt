@@ -1,5 +1,5 @@
 -- A pause, with its drains.
-use Rattle.std.proofs.Common.{◌≡◌, ◌≢◌, ◌⊎◌, inl, inr, ◌<◌, ◌++◌, Bool, true, false, ℕ, List, length, sym, ap, ◌∙◌, subst}
+use Rattle.std.proofs.Common.{◌≡◌, ◌≢◌, ◌⊎◌, inl, inr, ◌<◌, ◌++◌, Bool, true, false, ℕ, List, length, refl, sym, ap, ◌∙◌, subst}
 use Rattle.ndis_base.specs.declared.Phase.TheVariants as phase
 use Rattle.ndis_base.specs.declared.Who.{Who}
 use Rattle.journal_types.specs.declared.Event.TheVariants as event
@@ -19,7 +19,7 @@ use Rattle.book_lemmas.specs.Views.{BookView}
 use Rattle.book_runs.specs.Adds.{AddsTurns, IsOne, ArePauseSteps}
 use Rattle.book_runs.specs.Runs.{IsInPhase, IsAnswer, IsWaiting, Turned, Drained, PausesOnce, pause_phase}
 use Rattle.book_runs.proofs.Added.{one_of, as_kind, both, found_yes, found_no}
-use Rattle.book_runs.proofs.Pumped.{net_before, phase_after, same_after, less_after}
+use Rattle.book_runs.proofs.Pumped.{net_before, phase_after, same_after, less_after, keeps_by}
 
 pub drained_by : {old new : BookView} {w : Who} {r : Reply} → IsInPhase old phase.Pausing → 0 < length old.tray.net.things → Turned old new w event.Drain r → Drained w old new
 drained_by {old} {new} {w} {r} at some t =
@@ -30,6 +30,7 @@ drained_by {old} {new} {w} {r} at some t =
     record {
       now = record { between = t.between; phase_is = phase_after t g.leads.phase };
       fewer = less_after pause_to_go t g.less;
+      keeps = keeps_by refl t;
       added = subst (λ q. AddsTurns (IsOne w event.Drain q) old new) (sym t.told.told ∙ g.leads.reply) (one_of t);
     }
 
@@ -71,6 +72,7 @@ pub waits_and_drains : {old mid new : BookView} {w : Who} → WaitsNow w old mid
 waits_and_drains {old} {mid} {new} {w} p d = record {
   now = d.now;
   fewer = λ _. subst (λ (n : Net). pause_to_go new.tray.net < pause_to_go n) p.same d.fewer;
+  keeps = λ none. d.keeps (ap (λ (n : Net). n.requests) p.same ∙ none);
   added = both (IsOne w event.PauseNext (reply.Waiting p.many)) (IsOne w event.Drain reply.Moved) (ArePauseSteps w false) (drained_step w p.many) p.added d.added;
 }
 
@@ -98,6 +100,7 @@ paused_by {old} {new} w answer done p at t no_wait a = by_law (pauses old.tray.h
         let goes : PausesOnce w false old new = record {
           now = record { between = t.between; phase_is = phase_after t g.leads.phase };
           fewer = λ _. less_after pause_to_go t g.less;
+          keeps = keeps_by refl t;
           added = as_kind (IsOne w event.PauseNext reply.Next) (ArePauseSteps w false) (next_step w) (subst (λ r. AddsTurns (IsOne w event.PauseNext r) old new) told (one_of t));
         } in
         subst (λ b. PausesOnce w b old new) (sym no) goes
@@ -107,6 +110,7 @@ paused_by {old} {new} w answer done p at t no_wait a = by_law (pauses old.tray.h
         let over : PausesOnce w true old new = record {
           now = record { between = t.between; phase_is = phase_after t l.phase };
           fewer = λ e. absurd (no_true e);
+          keeps = keeps_by refl t;
           added = subst (λ r. AddsTurns (IsOne w event.PauseNext r) old new) told (one_of t);
         } in
         subst (λ b. PausesOnce w b old new) (sym yes) over

@@ -1,6 +1,7 @@
 -- Pumps, and what a turn leads to.
-use Rattle.std.proofs.Common.{◌≡◌, ◌≢◌, ◌⊎◌, inl, inr, ◌<◌, ℕ, Bool, true, false, Option, Some, None, refl, sym, ap, ◌∙◌, subst}
+use Rattle.std.proofs.Common.{◌≡◌, ◌≢◌, ◌⊎◌, inl, inr, ◌<◌, ℕ, Bool, true, false, [], refl, sym, ap, ◌∙◌, subst}
 use Rattle.ndis_base.specs.declared.Phase.{Phase}
+use Rattle.ndis_base.specs.declared.Phase.TheVariants as phase
 use Rattle.ndis_base.specs.declared.Who.{Who}
 use Rattle.journal_types.specs.declared.Event.{Event}
 use Rattle.journal_types.specs.declared.Event.TheVariants as event
@@ -10,18 +11,17 @@ use Rattle.flat_journal.specs.declared.types.FlatReply.{FlatReply}
 use Rattle.flat_journal.specs.Payloads.{Payloads}
 use Rattle.flat_journal.specs.Shown.{reply_of}
 use Rattle.journal_types.specs.declared.Turn.{Turn}
-use Rattle.stack_rules.specs.declared.Thing.{Thing}
 use Rattle.stack_rules.specs.Net.{Net, seen, after_turn}
-use Rattle.stack_rules.specs.Places.{agenda_first}
-use Rattle.stack_rules.specs.Pumps.{pump_of}
-use Rattle.stack_rules.specs.Sound.{Next, outcome}
+use Rattle.stack_rules.specs.Tests.{phase_is_halted, phase_is_paused}
 use Rattle.stack_rules.specs.Work.{work}
+use Rattle.run_laws.specs.Ending.{is_ending}
 use Rattle.run_laws.specs.Pumping.{Pumps}
 use Rattle.run_laws.specs.Turns.{ChangesNothing, GoesOn}
+use Rattle.run_laws.proofs.Ending.{empties_requests, empties_things, keeps_no_requests}
 use Rattle.run_laws.proofs.Pumping.{pumps}
 use Rattle.book_lemmas.specs.Views.{BookView}
 use Rattle.book_runs.specs.Adds.{AddsTurns, IsOne, pump_reply}
-use Rattle.book_runs.specs.Runs.{IsAnswer, Turned, Pumped}
+use Rattle.book_runs.specs.Runs.{IsAnswer, IsAtRest, KeepsNone, Turned, Pumped}
 use Rattle.book_runs.proofs.Added.{one_of, found_yes, found_no}
 
 -- the state before a turn, and after it
@@ -46,14 +46,23 @@ not_yes e = cc
 not_no : false ≡ true → ⊥
 not_no e = cc
 
--- a pump that moves nothing finds nothing on its way
-idle_first : (net : Net) (keeps : Bool) (o : Option Thing) → agenda_first net ≡ o → (pump_of net keeps o).reply ≡ reply.Idle → agenda_first net ≡ None
-idle_first net keeps None e r = e
-idle_first net keeps (Some x) e r = cc
+-- where no request is left, none comes by what ends a run
+pub keeps_by : {old new : BookView} {w : Who} {e : Event} {r : Reply} → is_ending e ≡ true → Turned old new w e r → KeepsNone old new
+keeps_by {old} {new} {w} {e} {r} ending t none =
+    let kept : (after_turn (net_before old) t.turn).requests ≡ [] =
+    keeps_no_requests old.tray.head old.tray.turns t.turn t.sound t.bound t.next (ap is_ending t.told.what ∙ ending) (subst (λ (n : Net). n.requests ≡ []) t.before none) in
+    ap (λ (n : Net). n.requests) t.after ∙ kept
 
-rests_by : (net : Net) (turn : Turn) → Next net turn → turn.event ≡ event.Pump → turn.reply ≡ reply.Idle → agenda_first net ≡ None
-rests_by net turn n is told =
-    idle_first net n.choice.keeps (agenda_first net) refl (sym (ap (λ e. (outcome net e n.choice).reply) is) ∙ sym n.reply ∙ told)
+-- an idle pump leaves the stack at rest
+rests_by : {old new : BookView} {w : Who} {r : Reply} → (t : Turned old new w event.Pump r) → t.turn.reply ≡ reply.Idle → new.tray.net ≡ old.tray.net → IsAtRest new
+rests_by {old} {new} {w} {r} t told same =
+    let is : new.tray.net ≡ net_before old = same ∙ t.before in
+    record {
+      requests = λ running there. ap (λ (n : Net). n.requests) is
+          ∙ empties_requests old.tray.head old.tray.turns t.turn t.sound t.bound t.next t.told.what told
+          (subst (λ (n : Net). phase_is_paused n.phase ≡ false) is running) (subst (λ (n : Net). phase_is_halted n.phase ≡ false) is there);
+      things = λ paused. ap (λ (n : Net). n.things) is ∙ empties_things old.tray.head old.tray.turns t.turn t.sound t.bound t.next t.told.what told (subst (λ (n : Net). n.phase ≡ phase.Paused) is paused);
+    }
 
 idle_not_moved : reply.Idle ≢ reply.Moved
 idle_not_moved e = cc
@@ -68,6 +77,7 @@ pumped_by {old} {new} w answer moved p t a = by_law (pumps old.tray.head old.tra
         let done : Pumped w true old new = record {
           between = t.between;
           rests = λ no. absurd (not_yes no);
+          keeps = keeps_by refl t;
           phase_is = phase_after t g.leads.phase ∙ sym (ap (λ (n : Net). n.phase) t.before);
           fewer = λ _. less_after work t g.less;
           added = subst (λ r. AddsTurns (IsOne w event.Pump r) old new) told (one_of t);
@@ -78,7 +88,8 @@ pumped_by {old} {new} w answer moved p t a = by_law (pumps old.tray.head old.tra
         let no : moved ≡ false = found_no reply.Moved answer moved p a (λ is. idle_not_moved (sym told ∙ is)) in
         let done : Pumped w false old new = record {
           between = t.between;
-          rests = λ no. ap agenda_first (t.after ∙ c.same) ∙ rests_by (net_before old) t.turn t.next t.told.what c.reply;
+          rests = λ no. rests_by t c.reply (same_after t c.same);
+          keeps = keeps_by refl t;
           phase_is = ap (λ (n : Net). n.phase) (same_after t c.same);
           fewer = λ yes. absurd (not_no yes);
           added = subst (λ r. AddsTurns (IsOne w event.Pump r) old new) told (one_of t);

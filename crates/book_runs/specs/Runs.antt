@@ -20,11 +20,9 @@ use Rattle.promise_rules.specs.declared.Tail.{Tail}
 use Rattle.promise_rules.specs.Own.{ending_of}
 use Rattle.stack_rules.specs.Conditions.{is_setup}
 use Rattle.stack_rules.specs.Net.{seen, after_turn}
-use Rattle.stack_rules.specs.Places.{agenda_first}
 use Rattle.stack_rules.specs.Sound.{Next, Sound}
-use Rattle.stack_rules.specs.Tests.{is_virtual}
+use Rattle.stack_rules.specs.Tests.{is_virtual, phase_is_halted, phase_is_paused}
 use Rattle.stack_rules.specs.Work.{work}
-use Rattle.unasked_laws.specs.Unasked.{AreUnasked}
 use Rattle.work_laws.specs.Bounds.{is_take}
 use Rattle.run_laws.specs.Opening.{restart_to_go}
 use Rattle.run_laws.specs.Pausing.{pause_to_go}
@@ -33,13 +31,12 @@ use Rattle.book_lemmas.specs.Views.{BookView}
 use Rattle.book_parts.specs.Events.{IsBook, IsIdle}
 use Rattle.book_runs.specs.Adds.{AddsThis, AddsTurns, Told, IsOne, ArePauses, ArePausing, ArePumps, AreRestarts, IsCall, IsTail, OpensTo, EndsTo, pump_reply, restart_reply}
 
--- between two turns of a run: the book stands, no turn is under way, the miniport isn't virtual, and so far nobody asked a
--- request or took a message
+-- between two turns of a run: the book stands, no turn is under way, the miniport isn't virtual, and so far nobody took a
+-- message
 pub record IsBetween (v : BookView) : Type 0 where
   pub book : IsBook v
   pub idle : IsIdle v
   pub rings : is_virtual v.tray.head.kind ≡ false
-  pub unasked : AreUnasked v.tray.turns
   pub untaken : All (λ (turn : Turn). is_take turn.event ≡ false) v.tray.turns
 
 -- between two turns, in this phase
@@ -59,18 +56,30 @@ pub record Turned (old new : BookView) (asker : Who) (e : Event) (answer : Reply
   pub before : old.tray.net ≡ seen old.tray.head old.tray.turns
   pub after : new.tray.net ≡ after_turn (seen old.tray.head old.tray.turns) turn
 
--- a pump: whether anything moved; where nothing did, nothing is on its way
+-- where no request is left, none comes
+abbrev pub KeepsNone : BookView → BookView → Type 0
+KeepsNone old new = old.tray.net.requests ≡ [] → new.tray.net.requests ≡ []
+
+-- a pump would move nothing: no request is left, unless the stack is Paused or Halted; and where it is Paused nothing is on
+-- its way
+pub record IsAtRest (v : BookView) : Type 0 where
+  pub requests : phase_is_paused v.tray.net.phase ≡ false → phase_is_halted v.tray.net.phase ≡ false → v.tray.net.requests ≡ []
+  pub things : v.tray.net.phase ≡ phase.Paused → v.tray.net.things ≡ []
+
+-- a pump: whether anything moved; where nothing did, the stack is at rest
 pub record Pumped (asker : Who) (moved : Bool) (old new : BookView) : Type 0 where
   pub between : IsBetween new
-  pub rests : moved ≡ false → agenda_first new.tray.net ≡ None
+  pub rests : moved ≡ false → IsAtRest new
+  pub keeps : KeepsNone old new
   pub phase_is : new.tray.net.phase ≡ old.tray.net.phase
   pub fewer : moved ≡ true → work new.tray.net < work old.tray.net
   pub added : AddsTurns (IsOne asker event.Pump (pump_reply moved)) old new
 
--- pumps until nothing moves: nothing is on its way
+-- pumps until nothing moves: the stack is at rest
 pub record PumpedAll (asker : Who) (old new : BookView) : Type 0 where
   pub between : IsBetween new
-  pub rests : agenda_first new.tray.net ≡ None
+  pub rests : IsAtRest new
+  pub keeps : KeepsNone old new
   pub phase_is : new.tray.net.phase ≡ old.tray.net.phase
   pub added : AddsTurns (ArePumps asker) old new
 
@@ -83,16 +92,19 @@ pause_phase false = phase.Pausing
 pub record Drained (asker : Who) (old new : BookView) : Type 0 where
   pub now : IsInPhase new phase.Pausing
   pub fewer : pause_to_go new.tray.net < pause_to_go old.tray.net
+  pub keeps : KeepsNone old new
   pub added : AddsTurns (IsOne asker event.Drain reply.Moved) old new
 
 -- a step of a pause: whether the stack is Paused
 pub record PausesOnce (asker : Who) (done : Bool) (old new : BookView) : Type 0 where
   pub now : IsInPhase new (pause_phase done)
   pub fewer : done ≡ false → pause_to_go new.tray.net < pause_to_go old.tray.net
+  pub keeps : KeepsNone old new
   pub added : AddsTurns (ArePausing asker done) old new
 
 pub record PausesAll (asker : Who) (old new : BookView) : Type 0 where
   pub now : IsInPhase new phase.Paused
+  pub keeps : KeepsNone old new
   pub added : AddsTurns (ArePauses asker) old new
 
 -- between two turns of a restart
@@ -175,6 +187,7 @@ MayCall (event.Lend frames) = Unit {0}
 MayCall (event.GiveBack binding list) = Unit {0}
 MayCall (event.Cancel id) = Unit {0}
 MayCall (event.Status name) = Unit {0}
+MayCall (event.Ask binding kind code value) = Unit {0}
 MayCall event.Transmit = Unit {0}
 MayCall event.Pump = Unit {0}
 MayCall event.Drain = Unit {0}

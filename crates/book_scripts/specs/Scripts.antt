@@ -18,8 +18,8 @@ use Rattle.book_lemmas.specs.Views.{BookView}
 use Rattle.book_runs.specs.Adds.{AddsTurns, IsCall, OpensTo, EndsTo}
 use Rattle.book_runs.specs.Runs.{IsBetween, IsInPhase}
 
--- an event that a run can ask: a send, an indication, frames that are lent, a list that a protocol gives back, a cancel, a status, a transmit, a
--- pump or a drain, a step of a pause or of a restart, or a change of the filters
+-- an event that a run can ask: a send, an indication, frames that are lent, a list that a protocol gives back, a cancel, a
+-- status, an OID request, a transmit, a pump or a drain, a step of a pause or of a restart, or a change of the filters
 abbrev pub is_asked_event : StackHead → Option Event → Bool
 is_asked_event head (Some (event.Send binding cancel frames)) = may_ask head (event.Send binding cancel frames)
 is_asked_event head (Some (event.Indicate frames)) = may_ask head (event.Indicate frames)
@@ -27,6 +27,7 @@ is_asked_event head (Some (event.Lend frames)) = may_ask head (event.Lend frames
 is_asked_event head (Some (event.GiveBack binding list)) = may_ask head (event.GiveBack binding list)
 is_asked_event head (Some (event.Cancel id)) = may_ask head (event.Cancel id)
 is_asked_event head (Some (event.Status name)) = true
+is_asked_event head (Some (event.Ask binding kind code value)) = may_ask head (event.Ask binding kind code value)
 is_asked_event head (Some event.Transmit) = true
 is_asked_event head (Some event.Pump) = true
 is_asked_event head (Some event.Drain) = true

@@ -1,7 +1,6 @@
 -- What is first on its way, and what the rules do with it.
-use Rattle.std.proofs.Common.{◌≡◌, ◌||◌, true, false, List, [], ◌∷◌, Option, Some, None, All, is_some, refl, sym, ap, ◌∙◌, subst}
+use Rattle.std.proofs.Common.{◌≡◌, ◌||◌, Bool, true, false, List, [], ◌∷◌, Option, Some, None, is_some, refl, sym, ap, ◌∙◌, subst}
 use Rattle.std.proofs.lemmas.Bool.{cond-true}
-use Rattle.std.proofs.lemmas.List.Elements.{All-head}
 use Rattle.journal_types.specs.declared.PassWay.{PassWay}
 use Rattle.journal_types.specs.declared.PassWay.TheVariants as way
 use Rattle.journal_types.specs.declared.Target.{Target}
@@ -19,7 +18,7 @@ use Rattle.stack_rules.specs.Net.{Net, Modules}
 use Rattle.stack_rules.specs.Outcome.{Outcome, answered}
 use Rattle.stack_rules.specs.Places.{agenda_first}
 use Rattle.stack_rules.specs.Pumps.{pump_of, pump_outcome, request_pump, is_pump_moving}
-use Rattle.stack_rules.specs.Requests.{next_giving}
+use Rattle.stack_rules.specs.Requests.{Giving, next_giving}
 use Rattle.agenda_items.specs.declared.Carried.{Carried}
 use Rattle.agenda_items.specs.declared.Carried.TheVariants.{List as a_list, Status as a_status, Answer as an_answer}
 use Rattle.hand_lemmas.proofs.Tells.{next_list, next_status, next_answer, none_away}
@@ -30,10 +29,10 @@ use Rattle.driver_tray.specs.Tray.{TrayView, first_way}
 use Rattle.book_lemmas.specs.Between.{IsBetween}
 use Rattle.book_lemmas.specs.Views.{BookView, hands_of}
 use Rattle.book_lemmas.proofs.Between.{first_placed}
-use Rattle.book_parts.specs.Events.{IsBook, IsIdle, DidEvent, FirstIs}
+use Rattle.book_parts.specs.Events.{IsBook, IsIdle, DidEvent, FirstIs, CanEnd}
 use Rattle.book_parts.proofs.Ended.{idle_state}
 use Rattle.book_parts.proofs.Events.{Begins, did_event, ends_still}
-use Rattle.pump_work.specs.Pumps.{IsNoAnswer, HasNoRequests}
+use Rattle.pump_work.specs.Pumps.{IsStill, MovesOne, MovesNone}
 
 -- the list that is first on its way
 pub first_is : {v : BookView} {by : PassWay} {to : Target} → first_way v.tray.queue ≡ Some (first.List by to) → FirstIs v by to
@@ -54,13 +53,6 @@ none_is [] e = refl
 none_is (a_list l w t ∷ rest) e = cc
 none_is (a_status s ∷ rest) e = cc
 none_is (an_answer a ∷ rest) e = cc
-
--- where no answer is on its way, none is the first
-pub not_answer : (q : List Carried) → All IsNoAnswer q → first_way q ≡ Some first.Answer → ⊥
-not_answer [] all e = cc
-not_answer (a_list l w t ∷ rest) all e = cc
-not_answer (a_status s ∷ rest) all e = cc
-not_answer (an_answer a ∷ rest) all e = All-head IsNoAnswer (an_answer a) rest all
 
 between : (old : BookView) → IsBook old → IsIdle old → IsBetween old.tray.head old.tray.turns old.tray.net
 between old k i = record { is = idle_state old k i; sound = k.follows.sound; bound = k.bound }
@@ -88,12 +80,12 @@ abbrev any_choice : Choice
 any_choice = record { keeps = false; refuses = false; shelf_empty = false }
 
 -- where nothing is on its way, and no request may be given, a pump is idle
-pub did_idle : (old : BookView) (t : TrayView) → IsBook old → IsIdle old → HasNoRequests old → first_way old.tray.queue ≡ None → Begins old.tray t []
+pub did_idle : (old : BookView) (t : TrayView) → IsBook old → IsIdle old → IsStill old → Begins old.tray t []
     → DidEvent old (record { tray = t; held = old.held }) event.Pump reply.Idle
-did_idle old t k i only none g =
+did_idle old t k i still g =
     let net : Net = old.tray.net in
-    let away : agenda_first net ≡ None = none_away net (hands_of old.tray.queue old.held []) k.stands.agrees (none_is old.tray.queue none) in
-    let out : pump_outcome net false ≡ answered reply.Idle = ap (pump_of net false) away ∙ ap (request_pump net) only.requests in
+    let away : agenda_first net ≡ None = none_away net (hands_of old.tray.queue old.held []) k.stands.agrees still.queue in
+    let out : pump_outcome net false ≡ answered reply.Idle = ap (pump_of net false) away ∙ ap (request_pump net) still.requests in
     did_event old _ [] event.Pump any_choice reply.Idle k i (ends_still t k g)
     (ap (λ (o : Outcome). o.reply) (sym out)) (ap (λ (o : Outcome). o.rows) (sym out)) refl tt (refl, refl)
 
@@ -105,10 +97,9 @@ some_away old (a_status s ∷ rest) f k is e = ap is_some (next_status old.tray.
 some_away old (an_answer a ∷ rest) f k is e = ap is_some (next_answer old.tray.net (hands_of old.tray.queue old.held []) a rest k.stands.agrees is)
 
 -- and a drain does what a pump does
-pub as_drain : (old new : BookView) (answer : Reply) (f : First) → IsBook old → first_way old.tray.queue ≡ Some f → DidEvent old new event.Pump answer → DidEvent old new event.Drain answer
-as_drain old new answer f k e d =
+as_drain : (old new : BookView) (answer : Reply) → is_pump_moving old.tray.net ≡ true → DidEvent old new event.Pump answer → DidEvent old new event.Drain answer
+as_drain old new answer moving d =
     let net : Net = old.tray.net in
-    let moving : is_pump_moving net ≡ true = ap (λ b. b || is_some (next_giving net)) (some_away old old.tray.queue f k refl e) in
     let same : drain_outcome net d.choice.keeps ≡ pump_outcome net d.choice.keeps = cond-true (is_pump_moving net) _ _ moving in
     record {
       book = d.book;
@@ -120,3 +111,22 @@ as_drain old new answer f k e d =
       refused = tt;
       still = d.still;
     }
+
+moves_one : (old new : BookView) → is_pump_moving old.tray.net ≡ true → DidEvent old new event.Pump reply.Moved → CanEnd new → MovesOne old new
+moves_one old new moving d turn = record { pump = d; drain = as_drain old new reply.Moved moving d; turn = turn }
+
+-- what is first on its way
+pub moves_first : (old new : BookView) (f : First) → IsBook old → first_way old.tray.queue ≡ Some f → DidEvent old new event.Pump reply.Moved → CanEnd new → MovesOne old new
+moves_first old new f k e d turn = moves_one old new (ap (λ b. b || is_some (next_giving old.tray.net)) (some_away old old.tray.queue f k refl e)) d turn
+
+right_true : (a b : Bool) → b ≡ true → (a || b) ≡ true
+right_true true b e = refl
+right_true false b e = e
+
+-- a request that is given
+pub moves_given : (old new : BookView) (g : Giving) → next_giving old.tray.net ≡ Some g → DidEvent old new event.Pump reply.Moved → CanEnd new → MovesOne old new
+moves_given old new g e d turn = moves_one old new (right_true (is_some (agenda_first old.tray.net)) (is_some (next_giving old.tray.net)) (ap is_some e)) d turn
+
+-- nothing moves
+pub moves_none : (v : BookView) → first_way v.tray.queue ≡ None → next_giving v.tray.net ≡ None → MovesNone v v
+moves_none v none next = record { same = refl; still = record { queue = none_is v.tray.queue none; requests = next } }

@@ -1,6 +1,7 @@
-//! A pump works the first thing on its way.
+//! A pump works the first thing on its way; where there is none, a request that may be given.
 #![tactic(auto)]
 
+pub mod givings;
 pub mod pumps;
 
-pub use crate::pumps::{drain_first, pump};
+pub use crate::pumps::{move_first, pump};

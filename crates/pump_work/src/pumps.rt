@@ -1,5 +1,5 @@
 //! A pump, by what is first on its way.
-ghost use Rattle.std.specs.Prelude.{◌≡◌, [], None, Some, All, OnOk, OnErr, IfOk};
+ghost use Rattle.std.specs.Prelude.{◌≡◌, [], None, Some, OnOk, OnErr, IfOk};
 ghost use Rattle.journal_types.specs.declared.Event.TheVariants as event;
 ghost use Rattle.journal_types.specs.declared.Reply.TheVariants as reply;
 ghost use Rattle.flat_journal.specs.Shown.{reply_of};
@@ -8,8 +8,10 @@ ghost use Rattle.driver_tray.specs.Tray.{first_way};
 ghost use Rattle.driver_tray.specs.declared.on_way.First.TheVariants as first;
 ghost use Rattle.book_parts.specs.Parts.{view_of};
 ghost use Rattle.book_parts.specs.Events.{IsBook, IsIdle, DidEvent, IsUnmoved, CanEnd};
-ghost use Rattle.pump_work.specs.Pumps.{IsNoAnswer, HasNoRequests};
+ghost use Rattle.pump_work.specs.Pumps.{IsStill, Moves, MovesOne};
 
+use crate::givings::give_next;
+use answer_work::finish;
 use binding_work::work_owner;
 use book_parts::BookParts;
 use delivery_work::work_bindings;
@@ -28,8 +30,7 @@ fn idle<M: MiniportCalls, P: ProtocolCalls, F: FilterCalls>(
 ) -> Result<(), OutOfMemory>
     requires book { IsBook (view_of M.state P.state F.state book.old) }
     requires idle { IsIdle (view_of M.state P.state F.state book.old) }
-    requires none_asked { HasNoRequests (view_of M.state P.state F.state book.old) }
-    requires none { first_way (view_of M.state P.state F.state book.old).tray.queue ≡ None }
+    requires still { IsStill (view_of M.state P.state F.state book.old) }
     ensures did { OnOk result (DidEvent (view_of M.state P.state F.state book.old) (view_of M.state P.state F.state book.new) event.Pump reply.Idle) }
     ensures turn { OnOk result (CanEnd (view_of M.state P.state F.state book.new)) }
     ensures memory { OnErr result (IsUnmoved (view_of M.state P.state F.state book.old) (view_of M.state P.state F.state book.new)) }
@@ -65,14 +66,13 @@ fn work_list<M: MiniportCalls, P: ProtocolCalls, F: FilterCalls>(
     }
 }
 
-/// Works the first thing on its way, a list or a status.
-fn work_first<M: MiniportCalls, P: ProtocolCalls, F: FilterCalls>(
+/// Works the first thing on its way: a list, a status or an answer.
+fn work_thing<M: MiniportCalls, P: ProtocolCalls, F: FilterCalls>(
     book: &mut BookParts<M, P, F>,
     first: First,
 ) -> Result<(), OutOfMemory>
     requires book { IsBook (view_of M.state P.state F.state book.old) }
     requires idle { IsIdle (view_of M.state P.state F.state book.old) }
-    requires answers { All IsNoAnswer (view_of M.state P.state F.state book.old).tray.queue }
     requires first { first_way (view_of M.state P.state F.state book.old).tray.queue ≡ Some first }
     ensures did { OnOk result (DidEvent (view_of M.state P.state F.state book.old) (view_of M.state P.state F.state book.new) event.Pump reply.Moved) }
     ensures turn { OnOk result (CanEnd (view_of M.state P.state F.state book.new)) }
@@ -81,48 +81,60 @@ fn work_first<M: MiniportCalls, P: ProtocolCalls, F: FilterCalls>(
     match first {
         First::List { way, to } => work_list(book, way, to),
         First::Status => work_status(book),
-        First::Answer => unreachable!(),
+        First::Answer => finish(book),
     }
 }
 
-/// A drain where something is first on its way, a list or a status: it is worked as by a pump.
-pub fn drain_first<M: MiniportCalls, P: ProtocolCalls, F: FilterCalls>(
+/// The same, which a drain does too.
+fn work_first<M: MiniportCalls, P: ProtocolCalls, F: FilterCalls>(
     book: &mut BookParts<M, P, F>,
     first: First,
 ) -> Result<(), OutOfMemory>
     requires book { IsBook (view_of M.state P.state F.state book.old) }
     requires idle { IsIdle (view_of M.state P.state F.state book.old) }
-    requires answers { All IsNoAnswer (view_of M.state P.state F.state book.old).tray.queue }
     requires first { first_way (view_of M.state P.state F.state book.old).tray.queue ≡ Some first }
-    ensures did { OnOk result (DidEvent (view_of M.state P.state F.state book.old) (view_of M.state P.state F.state book.new) event.Drain reply.Moved) }
-    ensures turn { OnOk result (CanEnd (view_of M.state P.state F.state book.new)) }
+    ensures moves { OnOk result (MovesOne (view_of M.state P.state F.state book.old) (view_of M.state P.state F.state book.new)) }
     ensures memory { OnErr result (IsUnmoved (view_of M.state P.state F.state book.old) (view_of M.state P.state F.state book.new)) }
 {
-    work_first(book, first)?;
+    work_thing(book, first)?;
     Ok(())
 }
 
-/// Works the first thing on its way; Idle where there is none. No answer is on its way, and no request may be
-/// given.
+/// Works the first thing on its way, and where there is none, gives a request that may be given: first that of
+/// the lowest module at which one waits and that is not busy, else the entry's first. It answers whether
+/// anything moved.
+pub fn move_first<M: MiniportCalls, P: ProtocolCalls, F: FilterCalls>(
+    book: &mut BookParts<M, P, F>,
+) -> Result<bool, OutOfMemory>
+    requires book { IsBook (view_of M.state P.state F.state book.old) }
+    requires idle { IsIdle (view_of M.state P.state F.state book.old) }
+    ensures moves { IfOk result (λ moved. Moves (view_of M.state P.state F.state book.old) (view_of M.state P.state F.state book.new) moved) }
+    ensures memory { OnErr result (IsUnmoved (view_of M.state P.state F.state book.old) (view_of M.state P.state F.state book.new)) }
+{
+    match book.tray.first() {
+        None => give_next(book),
+        Some(first) => {
+            work_first(book, first)?;
+            Ok(true)
+        }
+    }
+}
+
+/// Works what comes first; Idle where nothing moves.
 pub fn pump<M: MiniportCalls, P: ProtocolCalls, F: FilterCalls>(
     book: &mut BookParts<M, P, F>,
 ) -> Result<FlatReply, OutOfMemory>
     requires book { IsBook (view_of M.state P.state F.state book.old) }
     requires idle { IsIdle (view_of M.state P.state F.state book.old) }
-    requires none_asked { HasNoRequests (view_of M.state P.state F.state book.old) }
     ensures did { IfOk result (λ r. DidEvent (view_of M.state P.state F.state book.old) (view_of M.state P.state F.state book.new) event.Pump (reply_of (view_of M.state P.state F.state book.new).tray.payloads r)) }
     ensures within { IfOk result (λ r. ReplyWithin (view_of M.state P.state F.state book.new).tray.payloads r) }
     ensures turn { OnOk result (CanEnd (view_of M.state P.state F.state book.new)) }
     ensures memory { OnErr result (IsUnmoved (view_of M.state P.state F.state book.old) (view_of M.state P.state F.state book.new)) }
 {
-    match book.tray.first() {
-        None => {
-            idle(book)?;
-            Ok(FlatReply::Idle)
-        }
-        Some(first) => {
-            work_first(book, first)?;
-            Ok(FlatReply::Moved)
-        }
+    if move_first(book)? {
+        Ok(FlatReply::Moved)
+    } else {
+        idle(book)?;
+        Ok(FlatReply::Idle)
     }
 }

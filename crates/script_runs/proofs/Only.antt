@@ -15,7 +15,6 @@ use Rattle.script_types.specs.declared.Script.{Script}
 use Rattle.script_types.specs.declared.Call.{Call}
 use Rattle.script_types.specs.declared.FilterSetup.{FilterSetup}
 use Rattle.script_types.specs.declared.StackSetup.{StackSetup}
-use Rattle.unasked_laws.specs.Unasked.{AreUnasked}
 use Rattle.work_laws.specs.Bounds.{is_take}
 use Rattle.book_lemmas.specs.Views.{BookView}
 use Rattle.book_parts.proofs.Ended.{idle_state}
@@ -92,7 +91,6 @@ may_run stack calls head b r is o = record {
     book = o.book;
     idle = o.idle;
     rings = ap (λ (h : StackHead). is_virtual h.kind) (o.head_is ∙ is) ∙ r.ring;
-    unasked = subst AreUnasked (sym o.turns) tt;
     untaken = subst (All (λ (turn : Turn). is_take turn.event ≡ false)) (sym o.turns) (All-nil (λ (turn : Turn). is_take turn.event ≡ false));
   };
   phase_is = ap (λ (n : Net). n.phase) (idle_state b o.book o.idle) ∙ ap (λ ts. (seen b.tray.head ts).phase) o.turns;

@@ -16,7 +16,8 @@ use std::alloc::Global;
 
 /// Whether a script can be run: one stack of an adapter with a ring, of 1 to 8 protocols that
 /// log, retain or echo, and of at most 16 filters that don't classify; and calls of the script's lanes
-/// that send, indicate, lend, give back, cancel, tell statuses, transmit, pump, drain, pause, restart, or change the filters by such.
+/// that send, indicate, lend, give back, cancel, tell statuses, ask requests, transmit, pump, drain, pause, restart, or
+/// change the filters by such.
 pub fn is_built(script: &Script) -> bool
     ensures { result ≡ form.is_built script.now }
 {
@@ -158,6 +159,9 @@ fn is_asked_kind(stack: &StackSetup, kind: &CallKind) -> bool
             (*binding as usize) < stack.bindings.items().len() && is_list(*list)
         }
         CallKind::Cancel { id } => is_identifier(*id),
+        CallKind::Ask { binding, value, .. } => {
+            (*binding as usize) < stack.bindings.items().len() && value.bytes().len() <= 8
+        }
         CallKind::Insert { setup, .. } => is_setup(setup),
         CallKind::Remove { filter } => is_number(*filter),
         CallKind::Replace { filter, setup, .. } => is_number(*filter) && is_setup(setup),

@@ -21,7 +21,6 @@ use Rattle.book_lemmas.specs.Views.{BookView}
 use Rattle.book_lemmas.proofs.Heads.{head_seen}
 use Rattle.book_parts.specs.Events.{IsBook, IsIdle, DidEvent, IsUnmoved, CanEnd}
 use Rattle.book_parts.proofs.Ended.{idle_state, turned, Ends, ends}
-use Rattle.pump_work.specs.Pumps.{HasNoRequests}
 use Rattle.stack_steps.specs.Steps.{IsHeld, IsWorked, MovesShelf, Steps}
 use Rattle.stack_steps.proofs.Shelved.{follows_shelf}
 
@@ -41,9 +40,6 @@ held_book {old} e k = is_with old IsBook e (record { stands = k.stands; follows 
 
 pub held_idle : {old : BookView} {t : TrayView} → IsOnly old t → IsIdle old → IsIdle (record { tray = t; held = old.held })
 held_idle {old} e i = is_with old IsIdle e (record { rows = i.rows; told_by = i.told_by })
-
-pub held_unasked : {old : BookView} {t : TrayView} → IsOnly old t → HasNoRequests old → HasNoRequests (record { tray = t; held = old.held })
-held_unasked {old} e l = is_with old HasNoRequests e (record { answers = l.answers; requests = l.requests })
 
 -- the state's head is the stack's
 pub head_is : {v : BookView} → IsBook v → IsIdle v → v.tray.net.head ≡ v.tray.head

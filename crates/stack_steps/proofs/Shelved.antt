@@ -58,6 +58,7 @@ follows_shelf old new (event.Lend frames) answer worked d moves = stays old new 
 follows_shelf old new (event.GiveBack binding list) answer worked d moves = stays old new (event.GiveBack binding list) answer refl d d.still
 follows_shelf old new (event.Cancel id) answer worked d moves = stays old new (event.Cancel id) answer refl d d.still
 follows_shelf old new (event.Status name) answer worked d moves = stays old new (event.Status name) answer refl d d.still
+follows_shelf old new (event.Ask binding kind code value) answer worked d moves = stays old new (event.Ask binding kind code value) answer refl d d.still
 follows_shelf old new event.Transmit answer worked d moves = stays old new event.Transmit answer refl d d.still
 follows_shelf old new event.Pump answer worked d moves = stays old new event.Pump answer refl d d.still
 follows_shelf old new event.Drain answer worked d moves = stays old new event.Drain answer refl d d.still

@@ -25,6 +25,7 @@ IsWorked (event.Lend frames) = Unit {0}
 IsWorked (event.GiveBack binding list) = Unit {0}
 IsWorked (event.Cancel id) = Unit {0}
 IsWorked (event.Status name) = Unit {0}
+IsWorked (event.Ask binding kind code value) = Unit {0}
 IsWorked event.Transmit = Unit {0}
 IsWorked event.Pump = Unit {0}
 IsWorked event.Drain = Unit {0}

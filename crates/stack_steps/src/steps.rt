@@ -5,12 +5,11 @@ ghost use Rattle.stack_rules.specs.Tests.{is_virtual, phase_is_running};
 ghost use Rattle.miniport_work.specs.Works.{wired_as};
 ghost use Rattle.journal_types.specs.declared.Event.TheVariants as events;
 ghost use Rattle.stack_rules.specs.Conditions.{may_ask};
-ghost use Rattle.flat_journal.specs.Payloads.{Payloads};
 ghost use Rattle.flat_journal.specs.Shown.{event_of, reply_of};
-ghost use Rattle.flat_journal.specs.Within.{EventWithin, ReplyWithin};
+ghost use Rattle.flat_journal.specs.Within.{EventWithin, ReplyWithin, ValueWithin};
 ghost use Rattle.book_parts.specs.Parts.{view_of};
 ghost use Rattle.book_parts.specs.Events.{IsBook, IsIdle, DidEvent, IsUnmoved, CanEnd};
-ghost use Rattle.pump_work.specs.Pumps.{HasNoRequests};
+ghost use Rattle.flat_journal.specs.Payloads.{Payloads, value_at};
 ghost use Rattle.stack_steps.specs.Steps.{IsHeld, IsWorked, MovesShelf, Steps};
 
 use binding_work::send;
@@ -18,17 +17,18 @@ use book_parts::BookParts;
 use cancel_work::cancel;
 use drain_work::drain_still;
 use driver_calls::{FilterCalls, MiniportCalls, ProtocolCalls};
-use flat_journal::{FlatEvent, FlatReply};
+use flat_journal::{FlatEvent, FlatReply, ValueNo};
 use frame_arena::FrameSpan;
 use halt_work::halt;
 use journal_types::{Asked, Event};
 use lend_work::lend;
 use miniport_work::works::transmit;
-use ndis_base::{ListNo, OutOfMemory, Phase};
+use ndis_base::{ListNo, OidKind, OutOfMemory, Phase};
 use pause_work::pause_next;
 use phase_work::pauses::begin_pause;
-use pump_work::{drain_first, pump};
+use pump_work::{move_first, pump};
 use receive_work::{give_back, indicate};
+use request_work::ask;
 use rewire_work::{insert, remove, replace};
 use setup_work::{initialize, restart_next};
 use status_work::indicate_status;
@@ -136,27 +136,48 @@ fn lend_frames<M: MiniportCalls, P: ProtocolCalls, F: FilterCalls>(
     lend(book, frames.items(), span)
 }
 
-/// A drain: what is first on its way is worked, and where nothing is, the first module from the top that keeps a ready
-/// list gives it away.
+/// A drain: what comes first is worked as by a pump, and where nothing moves, the first module from the top that keeps
+/// a ready list gives it away.
 fn drain<M: MiniportCalls, P: ProtocolCalls, F: FilterCalls>(
     book: &mut BookParts<M, P, F>,
 ) -> Result<FlatReply, OutOfMemory>
     requires book { IsBook (view_of M.state P.state F.state book.old) }
     requires idle { IsIdle (view_of M.state P.state F.state book.old) }
-    requires none_asked { HasNoRequests (view_of M.state P.state F.state book.old) }
     requires rings { is_virtual (view_of M.state P.state F.state book.old).tray.net.head.kind ≡ false }
     ensures did { IfOk result (λ r. DidEvent (view_of M.state P.state F.state book.old) (view_of M.state P.state F.state book.new) events.Drain (reply_of (view_of M.state P.state F.state book.new).tray.payloads r)) }
     ensures within { IfOk result (λ r. ReplyWithin (view_of M.state P.state F.state book.new).tray.payloads r) }
     ensures turn { OnOk result (CanEnd (view_of M.state P.state F.state book.new)) }
     ensures memory { OnErr result (IsUnmoved (view_of M.state P.state F.state book.old) (view_of M.state P.state F.state book.new)) }
 {
-    match book.tray.first() {
-        None => drain_still(book),
-        Some(first) => {
-            drain_first(book, first)?;
-            Ok(FlatReply::Moved)
-        }
+    if move_first(book)? {
+        Ok(FlatReply::Moved)
+    } else {
+        drain_still(book)
     }
+}
+
+/// A binding asks with the value of an event, which the journal has at `held`.
+fn ask_request<M: MiniportCalls, P: ProtocolCalls, F: FilterCalls>(
+    book: &mut BookParts<M, P, F>,
+    event: &Event,
+    binding: u32,
+    kind: OidKind,
+    code: u32,
+    held: ValueNo,
+) -> Result<FlatReply, OutOfMemory>
+    requires book { IsBook (view_of M.state P.state F.state book.old) }
+    requires idle { IsIdle (view_of M.state P.state F.state book.old) }
+    requires asks { event.now ≡ events.Ask binding kind code (value_at (view_of M.state P.state F.state book.old).tray.payloads.frames held) }
+    requires within { ValueWithin (view_of M.state P.state F.state book.old).tray.payloads held }
+    ensures did { IfOk result (λ r. DidEvent (view_of M.state P.state F.state book.old) (view_of M.state P.state F.state book.new) event.now (reply_of (view_of M.state P.state F.state book.new).tray.payloads r)) }
+    ensures within { IfOk result (λ r. ReplyWithin (view_of M.state P.state F.state book.new).tray.payloads r) }
+    ensures turn { OnOk result (CanEnd (view_of M.state P.state F.state book.new)) }
+    ensures memory { OnErr result (IsUnmoved (view_of M.state P.state F.state book.old) (view_of M.state P.state F.state book.new)) }
+{
+    let Event::Ask { value, .. } = event else {
+        unreachable!()
+    };
+    ask(book, binding, kind, code, value, held)
 }
 
 /// Works an event that the journal has.
@@ -168,7 +189,6 @@ fn work<M: MiniportCalls, P: ProtocolCalls, F: FilterCalls>(
 ) -> Result<FlatReply, OutOfMemory>
     requires book { IsBook (view_of M.state P.state F.state book.old) }
     requires idle { IsIdle (view_of M.state P.state F.state book.old) }
-    requires none_asked { HasNoRequests (view_of M.state P.state F.state book.old) }
     requires rings { is_virtual (view_of M.state P.state F.state book.old).tray.net.head.kind ≡ false }
     requires held { IsHeld (view_of M.state P.state F.state book.old) event.now held }
     ensures did { IfOk result (λ r. DidEvent (view_of M.state P.state F.state book.old) (view_of M.state P.state F.state book.new) (event_of (view_of M.state P.state F.state book.old).tray.payloads held) (reply_of (view_of M.state P.state F.state book.new).tray.payloads r)) }
@@ -200,6 +220,12 @@ fn work<M: MiniportCalls, P: ProtocolCalls, F: FilterCalls>(
         FlatEvent::GiveBack { binding, list } => give_back(book, binding, list),
         FlatEvent::Cancel { id } => cancel(book, id),
         FlatEvent::Status { name } => indicate_status(book, name),
+        FlatEvent::Ask {
+            binding,
+            kind,
+            code,
+            value,
+        } => ask_request(book, event, binding, kind, code, value),
         FlatEvent::Transmit => transmit_oldest(book),
         FlatEvent::Pump => pump(book),
         FlatEvent::Drain => drain(book),
@@ -220,7 +246,6 @@ pub fn step<M: MiniportCalls, P: ProtocolCalls, F: FilterCalls>(
 ) -> Result<FlatReply, OutOfMemory>
     requires book { IsBook (view_of M.state P.state F.state book.old) }
     requires idle { IsIdle (view_of M.state P.state F.state book.old) }
-    requires none_asked { HasNoRequests (view_of M.state P.state F.state book.old) }
     requires rings { is_virtual (view_of M.state P.state F.state book.old).tray.head.kind ≡ false }
     requires worked { IsWorked asked.now.event }
     requires may { may_ask (view_of M.state P.state F.state book.old).tray.head asked.now.event ≡ true }

@@ -1,8 +1,5 @@
-use Rattle.book_runs.proofs.Between.{turned_by, unmoved_between, none_asked}
+use Rattle.book_runs.proofs.Between.{turned_by, unmoved_between}
 use Rattle.book_runs.proofs.asking.ask_for.Goals as goal
-
-pub step-requires-clause-none_asked : goal.step-requires-clause-none_asked
-step-requires-clause-none_asked g c = none_asked c.requires.between
 
 pub returns-clause-between : goal.returns-clause-between
 returns-clause-between g c = (turned_by c.requires.between c.requires.worked c.in_ok-reply.ensures.steps).between

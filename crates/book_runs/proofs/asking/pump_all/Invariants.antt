@@ -4,13 +4,14 @@ use Rattle.journal_types.specs.declared.Reply.TheVariants as reply
 use Rattle.stack_rules.specs.Work.{work}
 use Rattle.book_parts.specs.Parts.{view_of}
 use Rattle.book_runs.specs.Adds.{AddsTurns, AreEach}
-use Rattle.book_runs.specs.Runs.{IsBetween}
+use Rattle.book_runs.specs.Runs.{IsBetween, KeepsNone}
 use Rattle.book_runs.proofs.asking.pump_all.Given as goal
 
 abbrev pub invariant-loop : goal.invariant-loop
 invariant-loop g l = record {
   between : IsBetween (view_of g.M.MiniportCalls.state g.P.ProtocolCalls.state g.F.FilterCalls.state l.book);
   phase : l.book.tray.net.phase ≡ l.initial.book.tray.net.phase;
+  keeps : KeepsNone (view_of g.M.MiniportCalls.state g.P.ProtocolCalls.state g.F.FilterCalls.state l.initial.book) (view_of g.M.MiniportCalls.state g.P.ProtocolCalls.state g.F.FilterCalls.state l.book);
   added : AddsTurns (AreEach l.who event.Pump reply.Moved) (view_of g.M.MiniportCalls.state g.P.ProtocolCalls.state g.F.FilterCalls.state l.initial.book) (view_of g.M.MiniportCalls.state g.P.ProtocolCalls.state g.F.FilterCalls.state l.book);
 }
 

@@ -5,4 +5,4 @@ use Rattle.pump_work.proofs.pumps.idle.Goals as goal
 pub returns-clause-did : goal.returns-clause-did
 returns-clause-did g c =
     let room = c.make_room.ensures in
-    did_idle _ _ c.requires.book c.requires.idle c.requires.none_asked c.requires.none (begins_roomed _ _ room.same room.room_kept room.slack_kept)
+    did_idle _ _ c.requires.book c.requires.idle c.requires.still (begins_roomed _ _ room.same room.room_kept room.slack_kept)
