@@ -19,4 +19,4 @@ loop-preserved g c =
 pub returns-clause-pumped : goal.returns-clause-pumped
 returns-clause-pumped g c =
     let p = c.in_ok-pump_once.ensures.pumped in
-    record { between = p.between; rests = p.rests refl; keeps = λ none. p.keeps (c.loop.invariant.keeps none); phase_is = p.phase_is ∙ c.loop.invariant.phase; added = one_last _ _ pump_reply _ true false (search rules) c.loop.invariant.added p.added }
+    record { between = p.between; rests = p.rests (search rules); keeps = λ none. p.keeps (c.loop.invariant.keeps none); phase_is = p.phase_is ∙ c.loop.invariant.phase; added = one_last _ _ pump_reply _ true false (search rules) c.loop.invariant.added p.added }
