@@ -45,7 +45,7 @@ pub record IsOver (old new : BookView) : Type 0 where
 pub halted_by : {old new : BookView} {r : Reply} → IsInPhase old phase.Paused → old.tray.net.things ≡ [] → old.tray.net.requests ≡ [] → Turned old new who.Own event.Halt r → IsOver old new
 halted_by {old} {new} {r} at things requests t =
     let none : halt_items (seen old.tray.head old.tray.turns) ≡ 0 =
-    nothing_waits _ (subst (λ (n : Net). n.things ≡ []) t.before things) (subst (λ (n : Net). n.requests ≡ []) t.before requests) in
+    nothing_waits (seen old.tray.head old.tray.turns) (subst (λ (n : Net). n.things ≡ []) t.before things) (subst (λ (n : Net). n.requests ≡ []) t.before requests) in
     let l : LeadsTo (seen old.tray.head old.tray.turns) t.turn reply.Halted phase.Halted =
     halts old.tray.head old.tray.turns t.turn t.sound t.bound t.next t.told.what (sym (ap (λ (n : Net). n.phase) t.before) ∙ at.phase_is) none in
     record {
