@@ -5,11 +5,17 @@ use Rattle.ndis_base.specs.declared.ModuleId.TheVariants.{Miniport, Binding}
 use Rattle.ndis_base.specs.declared.ModuleState.{ModuleState}
 use Rattle.ndis_base.specs.declared.ModuleState.TheVariants as state
 use Rattle.ndis_base.specs.declared.OidKind.{OidKind}
+use Rattle.ndis_base.specs.declared.OidNo.{OidNo}
 use Rattle.journal_types.specs.declared.Event.TheVariants as event
 use Rattle.journal_types.specs.declared.Refusal.TheVariants as refusal
 use Rattle.journal_types.specs.declared.Reply.TheVariants as reply
 use Rattle.journal_types.specs.declared.Row.{Row}
 use Rattle.journal_types.specs.declared.Row.TheVariants as row
+use Rattle.flat_journal.specs.declared.types.FlatReply.{FlatReply}
+use Rattle.flat_journal.specs.declared.types.FlatReply.TheVariants as flat_reply
+use Rattle.flat_journal.specs.Payloads.{Payloads}
+use Rattle.flat_journal.specs.Shown.{reply_of}
+use Rattle.flat_journal.specs.Within.{ReplyWithin}
 use Rattle.stack_rules.specs.Net.{Net}
 use Rattle.stack_rules.specs.Outcome.{Outcome, refused, oid_no}
 use Rattle.stack_rules.specs.Places.{state_of}
@@ -78,11 +84,17 @@ issued old t binding kind code value s k i is ne g turns =
       turn = record { room = omega (arith, turns, e.turns) };
     }
 
-pub issued_event : (old : BookView) (t now : TrayView) (binding : ℕ) (kind : OidKind) (code : ℕ) (value : List ℕ) (s : ModuleState) → IsBook old → IsIdle old → s ≡ state_of t.net (Binding binding) → s ≢ state.Unbound → Begins old.tray t []
-    → 1 ≤ t.room.turns → now ≡ asked t binding kind code value → IsDone old (record { tray = now; held = old.held }) (event.Ask binding kind code value) (reply.Asked (oid_no t.net.next.request))
-issued_event old t now binding kind code value s k i is ne g turns same =
-    subst (λ (q : TrayView). IsDone old (record { tray = q; held = old.held }) (event.Ask binding kind code value) (reply.Asked (oid_no t.net.next.request))) (sym same)
-    (issued old t binding kind code value s k i is ne g turns)
+-- the answer tells the request's number
+pub issued_event : (old : BookView) (t now : TrayView) (binding : ℕ) (kind : OidKind) (code : ℕ) (value : List ℕ) (s : ModuleState) (r : FlatReply) → IsBook old → IsIdle old → s ≡ state_of t.net (Binding binding) → s ≢ state.Unbound
+    → Begins old.tray t [] → 1 ≤ t.room.turns → now ≡ asked t binding kind code value → r ≡ flat_reply.Asked (oid_no t.net.next.request)
+    → IsDone old (record { tray = now; held = old.held }) (event.Ask binding kind code value) (reply_of now.payloads r)
+issued_event old t now binding kind code value s r k i is ne g turns same number =
+    subst (λ (q : FlatReply). IsDone old (record { tray = now; held = old.held }) (event.Ask binding kind code value) (reply_of now.payloads q)) (sym number)
+    (subst (λ (q : TrayView). IsDone old (record { tray = q; held = old.held }) (event.Ask binding kind code value) (reply.Asked (oid_no t.net.next.request))) (sym same)
+    (issued old t binding kind code value s k i is ne g turns))
+
+pub number_within : (p : Payloads) (r : FlatReply) (n : OidNo) → r ≡ flat_reply.Asked n → ReplyWithin p r
+number_within p r n e = subst (ReplyWithin p) (sym e) tt
 
 -- a binding that isn't open asks nothing
 pub unbound_event : (old : BookView) (t : TrayView) (binding : ℕ) (kind : OidKind) (code : ℕ) (value : List ℕ) → IsBook old → IsIdle old → state.Unbound ≡ state_of t.net (Binding binding) → Begins old.tray t [] → 1 ≤ t.room.turns

@@ -1,7 +1,7 @@
 use Rattle.std.proofs.Common.{IsSome, subst}
 use Rattle.driver_views.specs.States.{FilterState}
 use Rattle.filter_work.proofs.Parts.{old_at, new_at, set_at, same_at, on_err}
-use Rattle.request_work.proofs.filters.forward_at.Goals as goal
+use Rattle.request_work.proofs.forwards.forward_at.Goals as goal
 
 pub forward_first-requires : goal.forward_first-requires
 forward_first-requires g c =
