@@ -1,11 +1,11 @@
 -- The request that is given next: nothing is on its way, and the filter that it is given to sits at a place.
-use Rattle.std.proofs.Common.{◌≡◌, ℕ, List, [], ◌∷◌, Option, Some, None, IsSome, refl, sym, ap, ◌∙◌, subst}
+use Rattle.std.proofs.Common.{◌≡◌, ℕ, List, [], ◌∷◌, Some, None, IsSome, refl, sym, ap, ◌∙◌, subst}
 use Rattle.ndis_base.specs.declared.ModuleId.TheVariants.{Filter}
 use Rattle.stack_rules.specs.declared.Attached.{Attached}
 use Rattle.stack_rules.specs.declared.Request.{Request}
-use Rattle.stack_rules.specs.Net.{Net, attached}
+use Rattle.stack_rules.specs.Net.{attached}
 use Rattle.stack_rules.specs.Places.{agenda_first}
-use Rattle.stack_rules.specs.Requests.{Giving, next_giving}
+use Rattle.stack_rules.specs.Requests.{next_giving}
 use Rattle.state_laws.proofs.Takes.{attached-is}
 use Rattle.attached_laws.proofs.Works.{GivesHere, gives_here}
 use Rattle.agenda_items.specs.declared.Carried.{Carried}
