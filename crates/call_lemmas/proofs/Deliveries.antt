@@ -1,6 +1,6 @@
 -- A list is delivered to a binding: its protocol logs the frames and may send an echo, and the last one passes the list
 -- back or keeps it.
-use Rattle.std.proofs.Common.{◌≡◌, ℕ, ◌==◌, ◌&&◌, not, Bool, true, false, cond, List, [], ◌∷◌, ◌++◌, None, refl, sym, ap, ◌∙◌, subst, append-nil, eq-eqb, ne_eqb}
+use Rattle.std.proofs.Common.{◌≡◌, ◌≢◌, ℕ, ◌==◌, ◌&&◌, not, Bool, true, false, cond, List, [], ◌∷◌, ◌++◌, None, refl, sym, ap, ◌∙◌, subst, append_assoc, append-nil, eq-eqb, ne_eqb}
 use Rattle.std.proofs.lemmas.Bool.{false≢true}
 use Rattle.ndis_base.specs.declared.Direction.TheVariants.{Down}
 use Rattle.ndis_base.specs.declared.ListStatus.TheVariants.{Success}
@@ -18,7 +18,7 @@ use Rattle.stack_rules.specs.Tests.{is_echo, is_retain}
 use Rattle.promise_rules.specs.declared.Call.{Call}
 use Rattle.promise_rules.specs.declared.Called.{Called}
 use Rattle.promise_rules.specs.declared.Called.TheVariants as called
-use Rattle.promise_rules.specs.Calls.{call}
+use Rattle.promise_rules.specs.Calls.{call, received_as}
 use Rattle.agenda_items.specs.declared.Carried.{Carried}
 use Rattle.agenda_items.specs.declared.Carried.TheVariants.{List as a_list}
 use Rattle.driver_views.specs.States.{ProtocolState, Record, called_for, logs}
@@ -29,7 +29,7 @@ use Rattle.driver_tray.specs.Tray.{TrayView}
 use Rattle.driver_calls.specs.Protocols.{Echoes, IsLent, Settles, IsReceived}
 use Rattle.driver_calls.specs.Protocols.Echoes.{silent, lacking, echoing}
 use Rattle.driver_calls.specs.Protocols.Settles.{retains, returns}
-use Rattle.call_lemmas.specs.InCall.{InCall}
+use Rattle.call_lemmas.specs.InCall.{Beside, InCall}
 use Rattle.call_lemmas.specs.Served.{Counts}
 use Rattle.call_lemmas.proofs.Bindings.{start_rows, in_started}
 use Rattle.call_lemmas.proofs.Miniports.{home_row, homeward_in}

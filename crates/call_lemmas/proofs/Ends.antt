@@ -1,21 +1,25 @@
 -- Where a call begins and where it ends, in a book.
-use Rattle.std.proofs.Common.{◌≡◌, ℕ, ◌≤◌, List, [], ◌++◌, All, length, refl, sym, ap, append-nil}
+use Rattle.std.proofs.Common.{◌≡◌, ℕ, ◌≤◌, List, [], ◌∷◌, ◌++◌, All, length, refl, sym, ap, ◌∙◌, subst, append-nil}
+use Rattle.std.proofs.lemmas.List.Elements.{All-nil}
 use Rattle.ndis_base.specs.declared.ModuleId.{ModuleId}
 use Rattle.journal_types.specs.declared.Row.{Row}
+use Rattle.journal_types.specs.declared.StackHead.{StackHead}
 use Rattle.buffer_pools.specs.Views.{ListView, PoolView}
+use Rattle.stack_rules.specs.Net.{Net, after_rows}
 use Rattle.promise_rules.specs.declared.Call.{Call}
 use Rattle.agenda_items.specs.declared.Carried.{Carried}
+use Rattle.hand_lemmas.specs.Hands.{Hands, Agrees, put_at}
 use Rattle.hand_lemmas.proofs.Rows.{agrees_same}
 use Rattle.book_lemmas.specs.Views.{HeldView, kept_of, held_pool, hands_of}
 use Rattle.book_lemmas.specs.Called.{IsCalled}
 use Rattle.book_lemmas.specs.Leaves.{Leaves}
-use Rattle.book_lemmas.specs.Stands.{Stands, IsCarriedSized}
+use Rattle.book_lemmas.specs.Stands.{Stands, IsSized, IsCarriedSized}
 use Rattle.book_lemmas.proofs.Called.{called_hands, called_sized}
 use Rattle.book_lemmas.proofs.Goes.{used_none}
 use Rattle.book_lemmas.proofs.Standing.{stands_step}
 use Rattle.driver_tray.specs.Tray.{TrayView}
-use Rattle.call_lemmas.specs.InCall.{hands_in, InCall}
-use Rattle.call_lemmas.proofs.Steps.{put_same}
+use Rattle.call_lemmas.specs.InCall.{Beside, hands_in, AreSizedIn, InCall}
+use Rattle.call_lemmas.proofs.Steps.{put_same, put_twice}
 
 -- the tray of a stack with the pool of a module, and some of what was on its way in the hands of the event's function
 pub enters : (t : TrayView) (held : HeldView) (m : ModuleId) (front : List Carried) (loose : List ListView) → Stands t.net (front ++ t.queue) held loose → t.caller ≡ m → t.pool ≡ held_pool held m

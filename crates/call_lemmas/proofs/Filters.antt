@@ -1,6 +1,6 @@
 -- What a filter does with a list that it is given: the rows that it writes are those of the rules for what it chose, and
 -- the list is in other hands.
-use Rattle.std.proofs.Common.{◌≡◌, ℕ, ◌==◌, Bool, true, false, List, [], ◌∷◌, ◌++◌, Some, None, refl, sym, ap, ◌∙◌, subst, arith, append_assoc, append-nil, ne_eqb, eq-eqb}
+use Rattle.std.proofs.Common.{◌≡◌, ◌≢◌, ℕ, ◌+◌, ◌==◌, ◌&&◌, Bool, true, false, List, [], ◌∷◌, ◌++◌, Option, Some, None, length, sum_by, refl, sym, ap, ◌∙◌, subst, arith, append_assoc, append-nil, ne_eqb, eq-eqb}
 use Rattle.flat_journal.proofs.Grown.{grown_by_frames}
 use Rattle.ndis_base.specs.declared.ModuleId.{ModuleId}
 use Rattle.ndis_base.specs.declared.ModuleId.TheVariants.{Filter}
@@ -11,6 +11,7 @@ use Rattle.program_types.specs.Apply.{applied}
 use Rattle.journal_types.specs.declared.PassWay.{PassWay}
 use Rattle.journal_types.specs.declared.Row.{Row}
 use Rattle.journal_types.specs.declared.Row.TheVariants as row
+use Rattle.journal_types.specs.declared.Setup.{Setup}
 use Rattle.journal_types.specs.declared.Target.{Target}
 use Rattle.buffer_pools.specs.declared.label.Label.{Label}
 use Rattle.buffer_pools.specs.Views.{ListView, PoolView, Issues, live_count}
@@ -18,12 +19,13 @@ use Rattle.stack_rules.specs.declared.Attached.{Attached}
 use Rattle.stack_rules.specs.declared.LiveList.{LiveList}
 use Rattle.stack_rules.specs.Handled.{program, made_of, given_by, filter_rows}
 use Rattle.stack_rules.specs.Net.{Net, Modules}
-use Rattle.stack_rules.specs.Outcome.{list_no, config_no}
+use Rattle.stack_rules.specs.Outcome.{list_no, config_no, max_frame}
 use Rattle.stack_rules.specs.Places.{position, is_full, pool_of}
 use Rattle.stack_rules.specs.Targets.{onward}
 use Rattle.stack_rules.specs.Tests.{is_hold, same_frames}
 use Rattle.promise_rules.specs.declared.Call.{Call}
 use Rattle.promise_rules.specs.Calls.{call, called_by}
+use Rattle.agenda_items.specs.declared.Carried.{Carried}
 use Rattle.agenda_items.specs.declared.Carried.TheVariants.{List as a_list}
 use Rattle.hand_lemmas.specs.Hands.{Common, Hands, in_state, in_hand, put_at}
 use Rattle.hand_lemmas.specs.Frames.{AreSized}
@@ -36,7 +38,7 @@ use Rattle.driver_calls.specs.Filters.{made_by, Handles}
 use Rattle.driver_calls.specs.Filters.Handles.{drops, passes, holds, lacks, clones}
 use Rattle.call_lemmas.specs.InCall.{Beside, hands_in, InCall}
 use Rattle.call_lemmas.proofs.Miniports.{calm_in, home_row, homeward_in}
-use Rattle.call_lemmas.proofs.Steps.{Wrote, in_given, in_turned_back, in_passed_front, in_passed_loose, in_kept, in_issued, used_row, onward_is, homeward_is}
+use Rattle.call_lemmas.proofs.Steps.{Wrote, wrote, in_given, in_turned_back, in_passed_front, in_passed_loose, in_kept, in_issued, used_row, onward_is, homeward_is}
 
 -- The list that is worked goes on, or back.
 

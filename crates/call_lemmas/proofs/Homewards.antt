@@ -1,6 +1,6 @@
 -- What a filter does with a list on its way home: it passes one of another owner on; an own clone is home, and its
 -- original goes homewards; an own list of which no original is kept is home alone. The rows are those of the rules.
-use Rattle.std.proofs.Common.{◌≡◌, ℕ, ◌==◌, Bool, true, false, cond, List, [], ◌∷◌, ◌++◌, Option, Some, None, map, filter, find, refl, sym, ap, ◌∙◌, subst, eqb-true}
+use Rattle.std.proofs.Common.{◌≡◌, ◌≢◌, ℕ, ◌==◌, Bool, true, false, cond, List, [], ◌∷◌, ◌++◌, Option, Some, None, map, filter, find, refl, sym, ap, ◌∙◌, subst, eqb-true}
 use Rattle.std.proofs.lemmas.Bool.{cond-true, cond-false}
 use Rattle.ndis_base.specs.declared.ModuleId.{ModuleId}
 use Rattle.ndis_base.specs.declared.ModuleId.TheVariants.{Filter}
@@ -12,25 +12,25 @@ use Rattle.journal_types.specs.declared.PassWay.{PassWay}
 use Rattle.journal_types.specs.declared.Row.{Row}
 use Rattle.journal_types.specs.declared.Row.TheVariants as row
 use Rattle.journal_types.specs.declared.Target.{Target}
-use Rattle.buffer_pools.specs.Views.{ListView}
+use Rattle.buffer_pools.specs.Views.{ListView, PoolView, Frees}
 use Rattle.stack_rules.specs.declared.LiveList.{LiveList}
 use Rattle.stack_rules.specs.declared.Stand.TheVariants as stand
 use Rattle.stack_rules.specs.Dones.{released, home_rows, completed_by, homeward_rows}
 use Rattle.stack_rules.specs.Net.{Net, lists, list_of}
-use Rattle.stack_rules.specs.Places.{is_kept_by, kept_lists}
+use Rattle.stack_rules.specs.Places.{is_kept_by, kept_lists, position}
 use Rattle.stack_rules.specs.Tests.{same_module}
 use Rattle.promise_rules.specs.declared.Call.{Call}
 use Rattle.promise_rules.specs.Calls.{call, called_by, home_call}
 use Rattle.agenda_items.specs.declared.Carried.TheVariants.{List as a_list}
 use Rattle.hand_lemmas.specs.Hands.{Common, Hands, Agrees, in_state, in_hand}
 use Rattle.hand_lemmas.proofs.Modules.{same_self, same_is, put_here}
-use Rattle.hand_lemmas.proofs.Tells.{kept_there}
+use Rattle.hand_lemmas.proofs.Tells.{IsKeptThere, kept_there}
 use Rattle.driver_views.specs.States.{FilterState}
 use Rattle.driver_tray.specs.Tray as tray
 use Rattle.driver_tray.specs.Tray.{TrayView}
 use Rattle.driver_calls.specs.Filters.{original_of, without_first, Completes}
 use Rattle.driver_calls.specs.Filters.Completes.{passes_back, releases, homes}
-use Rattle.call_lemmas.specs.InCall.{hands_in, InCall}
+use Rattle.call_lemmas.specs.InCall.{Beside, hands_in, InCall}
 use Rattle.call_lemmas.proofs.Filters.{in_homeward}
 use Rattle.call_lemmas.proofs.Miniports.{home_row, homeward_in, released_none}
 use Rattle.call_lemmas.proofs.Steps.{in_given, in_spent, in_passed_kept, homeward_is}

@@ -1,10 +1,11 @@
 -- A module was called, and its driver counted the calls: the drivers did what the rows of the call say.
-use Rattle.std.proofs.Common.{◌≡◌, ℕ, ◌+◌, ◌<◌, ◌&&◌, false, List, [], ◌∷◌, ◌++◌, Some, ◌≤◌, length, slice_index_or, slice_set, count_by, refl, sym, ap, ◌∙◌, subst, arith, append_assoc, append-nil, get_or-set_same, get_or-set_other, eq-eqb, ne_eqb, ◌⊎◌, inl, inr}
+use Rattle.std.proofs.Common.{◌≡◌, ℕ, ◌+◌, ◌<◌, ◌==◌, ◌&&◌, Bool, true, false, cond, List, [], ◌∷◌, ◌++◌, Some, ◌≤◌, length, slice_index_or, slice_set, count_by, refl, sym, ap, ◌∙◌, subst, arith, append_assoc, append-nil, get_or-set_same, get_or-set_other, eq-eqb, ne_eqb, ◌⊎◌, inl, inr}
 use Rattle.std.proofs.lemmas.Bool.{cases_eq}
 use Rattle.ndis_base.specs.declared.ModuleId.{ModuleId}
 use Rattle.ndis_base.specs.declared.ModuleId.TheVariants.{Miniport, Filter, Binding}
 use Rattle.journal_types.specs.declared.Row.{Row}
-use Rattle.buffer_pools.specs.Views.{PoolView}
+use Rattle.buffer_pools.specs.Views.{ListView, PoolView}
+use Rattle.stack_rules.specs.Net.{Net}
 use Rattle.stack_rules.specs.Tests.{same_module}
 use Rattle.rule_basics.proofs.Counts.{count_by-cons, count_by-append, one_if}
 use Rattle.promise_rules.specs.declared.Call.{Call}
@@ -18,7 +19,7 @@ use Rattle.hand_lemmas.proofs.Modules.{same_self}
 use Rattle.book_lemmas.proofs.Keeps.{keeps_same, keeps_set}
 use Rattle.book_lemmas.specs.Views.{HeldView, no_filter, no_protocol, filter_at, seat_of}
 use Rattle.book_lemmas.specs.Called.{SitsAt, filter_called, miniport_called, protocol_called}
-use Rattle.book_lemmas.specs.Did.{IsServed, IsIdle, Did}
+use Rattle.book_lemmas.specs.Did.{logs_in, IsServed, IsIdle, Did}
 use Rattle.driver_tray.specs.Tray.{TrayView}
 use Rattle.call_lemmas.specs.InCall.{Beside, InCall}
 use Rattle.call_lemmas.specs.Served.{AreCallsOf, Counts}

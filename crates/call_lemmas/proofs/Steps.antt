@@ -1,5 +1,5 @@
 -- One step of a call after the other: a row is written, and a list goes from one hand to another.
-use Rattle.std.proofs.Common.{◌≡◌, ℕ, ◌+◌, ◌≤◌, ◌-◌, true, false, cond, List, [], ◌∷◌, ◌++◌, All, length, sum_by, refl, sym, ap, ◌∙◌, subst, arith, append_assoc, append-nil, ◌==◌, eq-eqb}
+use Rattle.std.proofs.Common.{◌≡◌, ℕ, ◌+◌, ◌≤◌, ◌-◌, Bool, true, false, cond, List, [], ◌∷◌, ◌++◌, Option, Some, None, All, length, sum_by, count_by, refl, sym, ap, ◌∙◌, subst, arith, append_assoc, append-nil, ◌==◌, eq-eqb}
 use Rattle.std.proofs.lemmas.List.Sums.{sum_by-cons}
 use Rattle.std.proofs.lemmas.Bool.{cond-true, cond-false}
 use Rattle.std.proofs.lemmas.Bool.Decides.{nat_tests}
@@ -18,7 +18,8 @@ use Rattle.journal_types.specs.declared.PassWay.{PassWay}
 use Rattle.journal_types.specs.declared.Target.{Target}
 use Rattle.journal_types.specs.declared.Row.{Row}
 use Rattle.journal_types.specs.declared.Row.TheVariants as row
-use Rattle.buffer_pools.specs.Views.{ListView, PoolView, Issues, Frees}
+use Rattle.buffer_pools.specs.Views.{ListView, PoolView, IsOf, Issues, Frees}
+use Rattle.stack_rules.specs.declared.LiveList.{LiveList}
 use Rattle.stack_rules.specs.Net.{Net, Modules, after, after_rows, lists, list_of}
 use Rattle.stack_rules.specs.Targets.{onward, homeward_by}
 use Rattle.stack_rules.specs.Tests.{same_module}
@@ -26,11 +27,12 @@ use Rattle.promise_rules.specs.declared.Call.{Call}
 use Rattle.promise_rules.specs.Calls.{call, called_by, received_as, home_call, logged_at}
 use Rattle.agenda_items.specs.declared.Carried.{Carried}
 use Rattle.agenda_items.specs.declared.Carried.TheVariants.{List as a_list}
-use Rattle.hand_lemmas.specs.Hands.{Common, Hands, Agrees, put_at}
+use Rattle.agenda_items.specs.Views.{passed_by}
+use Rattle.hand_lemmas.specs.Hands.{Common, Hands, Agrees, IsSame, IsMine, in_state, in_hand, put_at}
 use Rattle.hand_lemmas.proofs.Modules.{put_here, at_each}
 use Rattle.hand_lemmas.proofs.Rows.{given, turned_back, wired, delivered, issued, agrees_same}
 use Rattle.hand_lemmas.proofs.Tells.{next_list}
-use Rattle.hand_lemmas.proofs.Steps.{passed_first, passed_kept, passed_loose, kept_first, homed_first}
+use Rattle.hand_lemmas.proofs.Steps.{passed_first, passed_kept, passed_loose, kept_first, homed_first, homed_kept, homed_loose}
 use Rattle.book_lemmas.specs.Did.{calls_now, calls_in, logs_in, direction_of}
 use Rattle.book_lemmas.specs.Leaves.{ArePlain}
 use Rattle.book_lemmas.specs.Stands.{IsSized, IsCarriedSized}

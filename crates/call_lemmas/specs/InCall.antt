@@ -4,7 +4,7 @@ use Rattle.std.specs.Prelude.{◌≡◌, ℕ, false, List, [], ◌++◌, All}
 use Rattle.ndis_base.specs.declared.ModuleId.{ModuleId}
 use Rattle.journal_types.specs.declared.Row.{Row}
 use Rattle.buffer_pools.specs.Views.{ListView}
-use Rattle.stack_rules.specs.Net.{after_rows}
+use Rattle.stack_rules.specs.Net.{Net, after_rows}
 use Rattle.promise_rules.specs.declared.Call.{Call}
 use Rattle.agenda_items.specs.declared.Carried.{Carried}
 use Rattle.hand_lemmas.specs.Hands.{Hands, Agrees, put_at}
