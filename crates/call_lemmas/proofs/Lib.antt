@@ -7,3 +7,4 @@ pub mod Filters
 pub mod Homewards
 pub mod Deliveries
 pub mod Statuses
+pub mod Requests
