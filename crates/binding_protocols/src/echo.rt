@@ -12,7 +12,10 @@ use driver_log::DriverLog;
 use driver_tray::Tray;
 use driver_views::Served;
 use frame_arena::FrameSpan;
-use ndis_base::{Direction, ListNo, ListStatus, OutOfMemory, ProtocolKind, StatusName};
+use ndis_base::{
+    Direction, ListNo, ListStatus, OidNo, OidStatus, OidValue, OutOfMemory, ProtocolKind,
+    StatusName,
+};
 use std::alloc::Global;
 
 /// Sends the frames of a list again, where the pool has a list for them.
@@ -104,6 +107,10 @@ impl ProtocolDriver for EchoProtocol {
 
     fn status(&mut self, _name: StatusName) {
         self.served.status += 1;
+    }
+
+    fn oid_complete(&mut self, _request: OidNo, _status: OidStatus, _value: &OidValue) {
+        self.served.oid_complete += 1;
     }
 
     fn give_back(&mut self, _list: ListNo, _tray: &mut Tray) -> bool {

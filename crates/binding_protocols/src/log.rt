@@ -10,7 +10,9 @@ use driver_log::DriverLog;
 use driver_tray::Tray;
 use driver_views::Served;
 use frame_arena::FrameSpan;
-use ndis_base::{ListNo, ListStatus, OutOfMemory, ProtocolKind, StatusName};
+use ndis_base::{
+    ListNo, ListStatus, OidNo, OidStatus, OidValue, OutOfMemory, ProtocolKind, StatusName,
+};
 use std::alloc::Global;
 
 /// A log protocol logs each list that is delivered to it and returns it at once.
@@ -78,6 +80,10 @@ impl ProtocolDriver for LogProtocol {
 
     fn status(&mut self, _name: StatusName) {
         self.served.status += 1;
+    }
+
+    fn oid_complete(&mut self, _request: OidNo, _status: OidStatus, _value: &OidValue) {
+        self.served.oid_complete += 1;
     }
 
     fn give_back(&mut self, _list: ListNo, _tray: &mut Tray) -> bool {

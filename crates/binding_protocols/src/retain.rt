@@ -11,7 +11,9 @@ use driver_tray::Tray;
 use driver_views::Served;
 use frame_arena::FrameSpan;
 use kept_lists::KeptLists;
-use ndis_base::{ListNo, ListStatus, OutOfMemory, ProtocolKind, StatusName};
+use ndis_base::{
+    ListNo, ListStatus, OidNo, OidStatus, OidValue, OutOfMemory, ProtocolKind, StatusName,
+};
 use std::alloc::Global;
 
 /// A retain protocol logs each list that is delivered to it, and keeps it until it is told to give it back.
@@ -83,6 +85,10 @@ impl ProtocolDriver for RetainProtocol {
 
     fn status(&mut self, _name: StatusName) {
         self.served.status += 1;
+    }
+
+    fn oid_complete(&mut self, _request: OidNo, _status: OidStatus, _value: &OidValue) {
+        self.served.oid_complete += 1;
     }
 
     fn give_back(&mut self, list: ListNo, tray: &mut Tray) -> bool {

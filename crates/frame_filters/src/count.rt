@@ -10,7 +10,10 @@ use driver_calls::{AttachFault, FilterDriver, LentFate};
 use driver_tray::Tray;
 use driver_views::Served;
 use journal_types::Setup;
-use ndis_base::{FilterKind, ListStatus, OutOfMemory, StatusName, StatusNo};
+use ndis_base::{
+    FilterKind, ListStatus, OidNo, OidStatus, OidValue, OutOfMemory, StatusName, StatusNo,
+};
+use stack_rules::Request;
 use std::alloc::Global;
 
 /// A count filter has no rules, counts each list that it is given, and passes it on. It refuses to attach where
@@ -83,6 +86,20 @@ impl FilterDriver for CountFilter {
 
     fn status(&mut self, number: StatusNo, name: StatusName, tray: &mut Tray) {
         self.core.status(number, name, tray);
+    }
+
+    fn oid(&mut self, request: &Request, tray: &mut Tray) {
+        self.core.oid(request, tray);
+    }
+
+    fn oid_complete(
+        &mut self,
+        request: OidNo,
+        status: OidStatus,
+        value: &OidValue,
+        tray: &mut Tray,
+    ) {
+        self.core.oid_complete(request, status, value, tray);
     }
 
     fn cancel(&mut self, _id: u32, _tray: &mut Tray) {}

@@ -12,7 +12,10 @@ use driver_tray::Tray;
 use driver_views::Served;
 use journal_types::Setup;
 use kept_lists::KeptLists;
-use ndis_base::{FilterKind, ListStatus, OutOfMemory, StatusName, StatusNo};
+use ndis_base::{
+    FilterKind, ListStatus, OidNo, OidStatus, OidValue, OutOfMemory, StatusName, StatusNo,
+};
+use stack_rules::Request;
 use std::alloc::Global;
 
 /// A hold filter has no rules. It keeps each list that it is given, and passes all on when the stack is to become
@@ -110,6 +113,22 @@ impl FilterDriver for HoldFilter {
     fn status(&mut self, number: StatusNo, name: StatusName, tray: &mut Tray) {
         self.served.status += 1;
         tray.indicate_status(number, name);
+    }
+
+    fn oid(&mut self, request: &Request, tray: &mut Tray) {
+        self.served.oid += 1;
+        tray.forward_clone(request);
+    }
+
+    fn oid_complete(
+        &mut self,
+        request: OidNo,
+        status: OidStatus,
+        value: &OidValue,
+        tray: &mut Tray,
+    ) {
+        self.served.oid_complete += 1;
+        tray.complete(request, status, value);
     }
 
     fn cancel(&mut self, id: u32, tray: &mut Tray) {

@@ -7,7 +7,7 @@ ghost use Rattle.driver_calls.specs.declared.faults.AttachFault.TheVariants.{Ref
 ghost use Rattle.driver_calls.specs.declared.fates.LentFate.TheVariants.{Left};
 ghost use Rattle.driver_calls.specs.Rooms.{CanCount};
 ghost use Rattle.driver_views.specs.States.{called_for};
-ghost use Rattle.driver_calls.specs.Filters.{MayHandle, IsHandled, MayComplete, IsCompleted, MaySee, IsSeenBy, Refuses};
+ghost use Rattle.driver_calls.specs.Filters.{MayHandle, IsHandled, MayComplete, IsCompleted, MaySee, IsSeenBy, MayForward, IsForwarded, MayFinish, IsFinished, Refuses};
 ghost use Rattle.frame_filters.specs.Filters.{new_filter};
 ghost use Rattle.frame_filters.specs.States.{plain_state};
 
@@ -18,7 +18,8 @@ use buffer_pools::BufferList;
 use driver_calls::{AttachFault, LentFate};
 use driver_tray::Tray;
 use journal_types::Setup;
-use ndis_base::{FilterKind, ListStatus, StatusName, StatusNo};
+use ndis_base::{FilterKind, ListStatus, OidNo, OidStatus, OidValue, StatusName, StatusNo};
+use stack_rules::Request;
 
 impl Plain {
     /// On the shelf, and never called.
@@ -102,6 +103,30 @@ impl Plain {
     {
         self.served.status += 1;
         tray.indicate_status(number, name);
+    }
+
+    /// Counts a request that is given to it, and forwards it by a clone.
+    pub(crate) fn oid(&mut self, request: &Request, tray: &mut Tray)
+        requires { MayForward (plain_state self.old) request.now tray.old }
+        ensures { IsForwarded (plain_state self.old) request.now tray.old (plain_state self.new) tray.new }
+    {
+        self.served.oid += 1;
+        tray.forward_clone(request);
+    }
+
+    /// Counts a clone that is done, and completes the request with the clone's status and value.
+    pub(crate) fn oid_complete(
+        &mut self,
+        request: OidNo,
+        status: OidStatus,
+        value: &OidValue,
+        tray: &mut Tray,
+    )
+        requires { MayFinish (plain_state self.old) value.now tray.old }
+        ensures { IsFinished (plain_state self.old) request status value.now tray.old (plain_state self.new) tray.new }
+    {
+        self.served.oid_complete += 1;
+        tray.complete(request, status, value);
     }
 
     pub(crate) fn detach(&mut self)

@@ -22,7 +22,10 @@ use driver_tray::Tray;
 use driver_views::Served;
 use frame_filters::{not_called, risen};
 use journal_types::Setup;
-use ndis_base::{FilterKind, ListStatus, OutOfMemory, StatusName, StatusNo};
+use ndis_base::{
+    FilterKind, ListStatus, OidNo, OidStatus, OidValue, OutOfMemory, StatusName, StatusNo,
+};
+use stack_rules::Request;
 use std::alloc::Global;
 use std::sync::Arc;
 
@@ -140,6 +143,22 @@ impl FilterDriver for EtherTypeFilter {
     fn status(&mut self, number: StatusNo, name: StatusName, tray: &mut Tray) {
         self.served.status += 1;
         tray.indicate_status(number, name);
+    }
+
+    fn oid(&mut self, request: &Request, tray: &mut Tray) {
+        self.served.oid += 1;
+        tray.forward_clone(request);
+    }
+
+    fn oid_complete(
+        &mut self,
+        request: OidNo,
+        status: OidStatus,
+        value: &OidValue,
+        tray: &mut Tray,
+    ) {
+        self.served.oid_complete += 1;
+        tray.complete(request, status, value);
     }
 
     fn cancel(&mut self, _id: u32, _tray: &mut Tray) {}

@@ -2,7 +2,7 @@
 ghost use Rattle.std.specs.Prelude.{◌≡◌, ◌&&◌, ◌≤◌, false, None, Some, OnOk, IfErr};
 ghost use Rattle.stack_rules.specs.Tests.{is_loop, is_virtual};
 ghost use Rattle.driver_calls.specs.declared.faults.AttachFault.TheVariants.{Refused, Memory};
-ghost use Rattle.driver_calls.specs.Miniports.{MayInitialize, Refuses, MaySend, IsQueued, MayReturn, IsReturned, MayTransmit, IsTransmitted, MayCancel, IsCancelled};
+ghost use Rattle.driver_calls.specs.Miniports.{MayInitialize, Refuses, MaySend, IsQueued, MayReturn, IsReturned, MayTransmit, IsTransmitted, MayCancel, IsCancelled, MayAnswer, IsAnswered};
 ghost use Rattle.ring_adapters.specs.Rings.{new_adapter};
 ghost use Rattle.ring_adapters.specs.States.{core_state};
 
@@ -10,12 +10,14 @@ use crate::counts::{not_called, risen};
 use crate::parts::Core;
 use crate::wires::{cross, enqueue};
 use buffer_pools::BufferList;
-use driver_calls::AttachFault;
+use driver_calls::{AttachFault, OidAnswer};
 use driver_log::DriverLog;
 use driver_tray::Tray;
 use journal_types::PortSetup;
 use kept_lists::KeptLists;
 use ndis_base::{ListNo, ListStatus, MiniportKind, OutOfMemory};
+use oid_answers::report_in;
+use stack_rules::Request;
 use std::alloc::Global;
 
 fn loops(kind: MiniportKind, running: bool) -> bool
@@ -77,6 +79,15 @@ impl Core {
     {
         self.served.returned += 1;
         tray.spend(list, status);
+    }
+
+    /// Counts a request, and answers it by the table of OIDs.
+    pub(crate) fn oid(&mut self, request: &Request, tray: &Tray) -> OidAnswer
+        requires { MayAnswer (core_state self.old) }
+        ensures { IsAnswered (core_state self.old) request.now tray.now result (core_state self.new) }
+    {
+        self.served.oid += 1;
+        report_in(tray, request)
     }
 
     pub(crate) fn cancel(&mut self, id: u32, tray: &mut Tray)

@@ -6,11 +6,12 @@ ghost use Rattle.ring_adapters.specs.States.{core_state};
 
 use crate::parts::Core;
 use buffer_pools::BufferList;
-use driver_calls::{AttachFault, MiniportDriver};
+use driver_calls::{AttachFault, MiniportDriver, OidAnswer};
 use driver_tray::Tray;
 use driver_views::Served;
 use journal_types::PortSetup;
 use ndis_base::{ListNo, ListStatus, MiniportKind, OutOfMemory};
+use stack_rules::Request;
 use std::alloc::Global;
 
 /// A ring adapter keeps the lists that it is sent in its ring, and turns a list back where the ring is full. Told to
@@ -68,6 +69,10 @@ impl MiniportDriver for RingAdapter {
 
     fn returned(&mut self, list: BufferList, status: ListStatus, tray: &mut Tray) {
         self.core.returned(list, status, tray);
+    }
+
+    fn oid(&mut self, request: &Request, tray: &Tray) -> OidAnswer {
+        self.core.oid(request, tray)
     }
 
     fn cancel(&mut self, id: u32, tray: &mut Tray) {

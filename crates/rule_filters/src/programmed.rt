@@ -5,7 +5,7 @@ ghost use Rattle.promise_rules.specs.declared.Called.TheVariants as called;
 ghost use Rattle.stack_rules.specs.Tests.{is_hold};
 ghost use Rattle.hand_lemmas.specs.Frames.{AreSized};
 ghost use Rattle.driver_calls.specs.Rooms.{HasRoomForNew};
-ghost use Rattle.driver_calls.specs.Filters.{MayHandle, IsHandled, MayComplete, IsCompleted, MaySee, IsSeenBy, Refuses, IsLentTo};
+ghost use Rattle.driver_calls.specs.Filters.{MayHandle, IsHandled, MayComplete, IsCompleted, MaySee, IsSeenBy, MayForward, IsForwarded, MayFinish, IsFinished, Refuses, IsLentTo};
 ghost use Rattle.frame_filters.specs.Filters.{new_filter};
 ghost use Rattle.rule_filters.specs.States.{programmed_state, room_of};
 ghost use Rattle.rule_filters.specs.Changes.{HandlesList, HandlesLentList};
@@ -20,7 +20,10 @@ use frame_filters::{not_called, risen, take_home};
 use frame_programs::MadeFrames;
 use journal_types::Setup;
 use kept_lists::KeptLists;
-use ndis_base::{FilterKind, ListStatus, OutOfMemory, StatusName, StatusNo};
+use ndis_base::{
+    FilterKind, ListStatus, OidNo, OidStatus, OidValue, OutOfMemory, StatusName, StatusNo,
+};
+use stack_rules::Request;
 use std::alloc::Global;
 
 impl Programmed {
@@ -151,6 +154,30 @@ impl Programmed {
     {
         self.served.status += 1;
         tray.indicate_status(number, name);
+    }
+
+    /// Counts a request that is given to it, and forwards it by a clone.
+    pub(crate) fn oid(&mut self, request: &Request, tray: &mut Tray)
+        requires { MayForward (programmed_state self.old) request.now tray.old }
+        ensures { IsForwarded (programmed_state self.old) request.now tray.old (programmed_state self.new) tray.new }
+    {
+        self.served.oid += 1;
+        tray.forward_clone(request);
+    }
+
+    /// Counts a clone that is done, and completes the request with the clone's status and value.
+    pub(crate) fn oid_complete(
+        &mut self,
+        request: OidNo,
+        status: OidStatus,
+        value: &OidValue,
+        tray: &mut Tray,
+    )
+        requires { MayFinish (programmed_state self.old) value.now tray.old }
+        ensures { IsFinished (programmed_state self.old) request status value.now tray.old (programmed_state self.new) tray.new }
+    {
+        self.served.oid_complete += 1;
+        tray.complete(request, status, value);
     }
 
     pub(crate) fn detach(&mut self)

@@ -10,7 +10,10 @@ use driver_calls::{AttachFault, FilterDriver, LentFate};
 use driver_tray::Tray;
 use driver_views::Served;
 use journal_types::Setup;
-use ndis_base::{FilterKind, ListStatus, OutOfMemory, StatusName, StatusNo};
+use ndis_base::{
+    FilterKind, ListStatus, OidNo, OidStatus, OidValue, OutOfMemory, StatusName, StatusNo,
+};
+use stack_rules::Request;
 use std::alloc::Global;
 
 /// A rule filter does with the frames of each list what its programs say. It attaches with any programs.
@@ -87,6 +90,20 @@ impl FilterDriver for RuleFilter {
 
     fn status(&mut self, number: StatusNo, name: StatusName, tray: &mut Tray) {
         self.core.status(number, name, tray);
+    }
+
+    fn oid(&mut self, request: &Request, tray: &mut Tray) {
+        self.core.oid(request, tray);
+    }
+
+    fn oid_complete(
+        &mut self,
+        request: OidNo,
+        status: OidStatus,
+        value: &OidValue,
+        tray: &mut Tray,
+    ) {
+        self.core.oid_complete(request, status, value, tray);
     }
 
     fn cancel(&mut self, _id: u32, _tray: &mut Tray) {}

@@ -14,7 +14,10 @@ use driver_calls::{AttachFault, FilterDriver, LentFate};
 use driver_tray::Tray;
 use driver_views::Served;
 use journal_types::Setup;
-use ndis_base::{FilterKind, ListStatus, OutOfMemory, StatusName, StatusNo};
+use ndis_base::{
+    FilterKind, ListStatus, OidNo, OidStatus, OidValue, OutOfMemory, StatusName, StatusNo,
+};
+use stack_rules::Request;
 use std::alloc::Global;
 
 /// A tag filter puts a VLAN tag on each frame that is sent, and takes it off the received frames of that VLAN. It
@@ -99,6 +102,20 @@ impl FilterDriver for TagFilter {
 
     fn status(&mut self, number: StatusNo, name: StatusName, tray: &mut Tray) {
         self.core.status(number, name, tray);
+    }
+
+    fn oid(&mut self, request: &Request, tray: &mut Tray) {
+        self.core.oid(request, tray);
+    }
+
+    fn oid_complete(
+        &mut self,
+        request: OidNo,
+        status: OidStatus,
+        value: &OidValue,
+        tray: &mut Tray,
+    ) {
+        self.core.oid_complete(request, status, value, tray);
     }
 
     fn cancel(&mut self, _id: u32, _tray: &mut Tray) {}
