@@ -1,3 +1,1 @@
-pub mod Asked
-pub mod Sweep
-pub mod Turns
+pub mod Bound
