@@ -7,3 +7,5 @@ pub mod Filters
 pub mod Homewards
 pub mod Deliveries
 pub mod Statuses
+pub mod Requests
+pub mod Answers
