@@ -5,12 +5,12 @@ use Rattle.driver_views.specs.States.{ProtocolState}
 use Rattle.driver_tray.specs.Tray.{TrayView}
 use Rattle.driver_calls.specs.Rooms.{CanCount}
 
--- there is room for a turn of so many rows, one of which shows a value, and for one more thing on its way
-pub record IsReady (many : ℕ) (t : TrayView) : Type 0 where
+-- there is room for a turn of so many rows, one of which shows a value of so many bytes, and for one more thing on its way
+pub record IsReady (many long : ℕ) (t : TrayView) : Type 0 where
   pub turns : 1 ≤ t.room.turns
   pub rows : many ≤ t.room.rows
   pub frames : 1 ≤ t.room.frames
-  pub bytes : 8 ≤ t.room.bytes
+  pub bytes : long ≤ t.room.bytes
   pub slack : 1 ≤ t.slack
 
 -- a protocol can be told once more that a request is done

@@ -1,14 +1,21 @@
 -- A request is done: at a filter by the answer to the clone of it, and at the miniport at once.
-use Rattle.std.specs.Prelude.{◌≡◌, ℕ, ◌≤◌}
+use Rattle.std.specs.Prelude.{◌≡◌, ℕ, ◌≤◌, Option, Some, None}
 use Rattle.ndis_base.specs.declared.ModuleId.TheVariants.{Miniport, Filter}
 use Rattle.stack_rules.specs.declared.Answered.{Answered}
 use Rattle.stack_rules.specs.declared.Request.{Request}
+use Rattle.stack_rules.specs.declared.RequestAt.{RequestAt}
+use Rattle.stack_rules.specs.declared.RequestAt.TheVariants as at
 use Rattle.stack_rules.specs.OidTable.{report_of}
 use Rattle.promise_rules.specs.declared.Called.TheVariants as called
 use Rattle.driver_views.specs.States.{FilterState, MiniportState, called_for}
 use Rattle.driver_tray.specs.Tray.{TrayView, request_given, completed}
 use Rattle.driver_calls.specs.Filters.{IsFinished}
 use Rattle.filter_work.specs.Works.{IsRoomed}
+
+-- the filter that has a request
+abbrev pub holder_in : RequestAt → Option ℕ
+holder_in (at.Given (Filter f)) = Some f
+holder_in _ = None
 
 -- the filter completes the request that it forwarded, with the clone's status and value
 abbrev pub Finishes : ℕ → Answered → FilterState → TrayView → FilterState → TrayView → Type 0

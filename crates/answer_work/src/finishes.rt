@@ -1,9 +1,7 @@
 //! An answer on its way to a filter.
-ghost use Rattle.std.specs.Prelude.{◌≡◌, ◌<◌, Some, IsSome, OnOk, OnErr, length, map, slice_index_or, slice_set};
-ghost use Rattle.ndis_base.specs.declared.ModuleId.TheVariants.{Filter};
+ghost use Rattle.std.specs.Prelude.{◌≡◌, ◌<◌, Some, IsSome, OnOk, OnErr, length, map, slice_set};
 ghost use Rattle.journal_types.specs.declared.Event.TheVariants as event;
 ghost use Rattle.journal_types.specs.declared.Reply.TheVariants as reply;
-ghost use Rattle.stack_rules.specs.declared.RequestAt.TheVariants.{Given};
 ghost use Rattle.stack_rules.specs.Net.{request_of};
 ghost use Rattle.promise_rules.specs.declared.Called.TheVariants as called;
 ghost use Rattle.driver_calls.specs.Rooms.{CanCount};
@@ -14,7 +12,7 @@ ghost use Rattle.book_parts.specs.Parts.{view_of};
 ghost use Rattle.book_parts.specs.Events.{IsBook, IsIdle, DidEvent, IsUnmoved, CanEnd};
 ghost use Rattle.filter_work.specs.Works.{IsRoomed};
 ghost use Rattle.answer_work.specs.Rooms.{IsReady};
-ghost use Rattle.answer_work.specs.Works.{Finishes, FinishesFirst};
+ghost use Rattle.answer_work.specs.Works.{holder_in, Finishes, FinishesFirst};
 
 use crate::tellings::{room_at, tell_binding};
 use book_parts::BookParts;
@@ -22,16 +20,30 @@ use driver_calls::{FilterCalls, MiniportCalls, ProtocolCalls};
 use driver_tray::Tray;
 use filter_work::places::place_of;
 use flat_journal::Room;
-use ndis_base::{ModuleId, OutOfMemory};
+use ndis_base::{ModuleId, OidValue, OutOfMemory};
 use stack_rules::{Answered, Request, RequestAt};
 
 const FAR: u64 = 1 << 60;
 
+/// The filter that has a request.
+fn holder_in(at: RequestAt) -> Option<u64>
+    ensures { result ≡ holder_in at }
+{
+    match at {
+        RequestAt::Given(ModuleId::Filter(f)) => Some(f),
+        _ => None,
+    }
+}
+
 /// Makes all room that an answer at a filter wants.
-fn make_room<F: FilterCalls>(filter: &F, tray: &mut Tray) -> Result<(), OutOfMemory>
+fn make_room<F: FilterCalls>(
+    filter: &F,
+    tray: &mut Tray,
+    value: &OidValue,
+) -> Result<(), OutOfMemory>
     ensures tray { IsRoomed tray.old tray.new }
     ensures count { OnOk result (CanCount called.OidComplete (F.state filter.now).did.served) }
-    ensures ready { OnOk result (IsReady 1 tray.new) }
+    ensures ready { OnOk result (IsReady 1 (length value.now) tray.new) }
 {
     if filter.served().oid_complete >= FAR {
         return Err(OutOfMemory);
@@ -41,7 +53,7 @@ fn make_room<F: FilterCalls>(filter: &F, tray: &mut Tray) -> Result<(), OutOfMem
             turns: 1,
             rows: 1,
             frames: 1,
-            bytes: 8,
+            bytes: value.bytes().len(),
             ..Room::none()
         },
         1,
@@ -53,7 +65,7 @@ fn make_room<F: FilterCalls>(filter: &F, tray: &mut Tray) -> Result<(), OutOfMem
 fn complete<F: FilterCalls>(filter: &mut F, tray: &mut Tray, f: u64, answer: &Answered)
     requires setup { IsSome (F.state filter.old).setup }
     requires count { CanCount called.OidComplete (F.state filter.old).did.served }
-    requires ready { IsReady 1 tray.old }
+    requires ready { IsReady 1 (length answer.now.value) tray.old }
     ensures { Finishes f answer.now (F.state filter.old) tray.old (F.state filter.new) tray.new }
 {
     tray.set_caller(ModuleId::Filter(f));
@@ -72,7 +84,7 @@ fn work_first<F: FilterCalls>(
     ensures filter { OnErr result (F.state filter.new ≡ F.state filter.old) }
     ensures tray { OnErr result (IsRoomed tray.old tray.new) }
 {
-    make_room(filter, tray)?;
+    make_room(filter, tray, &answer.value)?;
     complete(filter, tray, f, answer);
     Ok(())
 }
@@ -108,7 +120,7 @@ fn finish_at<M: MiniportCalls, P: ProtocolCalls, F: FilterCalls>(
     requires idle { IsIdle (view_of M.state P.state F.state book.old) }
     requires first { first_answer (view_of M.state P.state F.state book.old).tray.queue ≡ Some answer.now }
     requires asked { request_of answer.now.parent.0 (view_of M.state P.state F.state book.old).tray.net.requests ≡ Some asked.now }
-    requires at { asked.now.at ≡ Given (Filter f) }
+    requires at { holder_in asked.now.at ≡ Some f }
     ensures did { OnOk result (DidEvent (view_of M.state P.state F.state book.old) (view_of M.state P.state F.state book.new) event.Pump reply.Moved) }
     ensures turn { OnOk result (CanEnd (view_of M.state P.state F.state book.new)) }
     ensures memory { OnErr result (IsUnmoved (view_of M.state P.state F.state book.old) (view_of M.state P.state F.state book.new)) }
@@ -147,8 +159,8 @@ pub fn finish<M: MiniportCalls, P: ProtocolCalls, F: FilterCalls>(
     let Some(asked) = book.tray.request_of(answer.parent.0) else {
         unreachable!()
     };
-    match asked.at {
-        RequestAt::Given(ModuleId::Filter(f)) => finish_at(book, &answer, &asked, f),
-        _ => unreachable!(),
-    }
+    let Some(f) = holder_in(asked.at) else {
+        unreachable!()
+    };
+    finish_at(book, &answer, &asked, f)
 }

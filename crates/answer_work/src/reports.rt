@@ -28,7 +28,7 @@ fn make_room<M: MiniportCalls>(miniport: &M, tray: &mut Tray) -> Result<(), OutO
     requires { IsSome (M.state miniport.now).port }
     ensures tray { IsRoomed tray.old tray.new }
     ensures may { OnOk result (MayAnswer (M.state miniport.now)) }
-    ensures ready { OnOk result (IsReady 2 tray.new) }
+    ensures ready { OnOk result (IsReady 2 8 tray.new) }
 {
     if miniport.served().oid >= FAR {
         return Err(OutOfMemory);
@@ -49,7 +49,7 @@ fn make_room<M: MiniportCalls>(miniport: &M, tray: &mut Tray) -> Result<(), OutO
 /// The miniport is given a request, which is done with what it answers.
 fn answer<M: MiniportCalls>(miniport: &mut M, tray: &mut Tray, request: &Request) -> OidAnswer
     requires may { MayAnswer (M.state miniport.old) }
-    requires ready { IsReady 2 tray.old }
+    requires ready { IsReady 2 8 tray.old }
     ensures status { result.status ≡ (report_of tray.old.net request.now).status }
     ensures value { result.value ≡ (report_of tray.old.net request.now).value }
     ensures reports { Reports request.now (M.state miniport.old) tray.old (M.state miniport.new) tray.new }

@@ -9,19 +9,16 @@ use ndis_base::{OidNo, OidStatus, OidValue, OutOfMemory};
 
 const FAR: u64 = 1 << 60;
 
-/// That the binding has a protocol, which can count one more answer.
+/// That the protocol of a binding can count one more answer.
 pub fn room_at<P: ProtocolCalls>(protocols: &[P], binding: u32) -> Result<(), OutOfMemory>
-    ensures within { OnOk result (binding < length protocols.now) }
-    ensures count { OnOk result (CanTell (slice_index_or (map P.state protocols.now) binding no_protocol)) }
+    requires { binding < length protocols.now }
+    ensures { OnOk result (CanTell (slice_index_or (map P.state protocols.now) binding no_protocol)) }
 {
-    let place = binding as usize;
-    if place >= protocols.len() {
-        return Err(OutOfMemory);
+    if protocols[binding as usize].served().oid_complete >= FAR {
+        Err(OutOfMemory)
+    } else {
+        Ok(())
     }
-    if protocols[place].served().oid_complete >= FAR {
-        return Err(OutOfMemory);
-    }
-    Ok(())
 }
 
 /// Tells the binding of a request that the request is done (WDK, "ProtocolOidRequestComplete"). No binding
