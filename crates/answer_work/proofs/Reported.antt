@@ -90,3 +90,7 @@ pub reported_event : (old new : BookView) (t : TrayView) (r : Request) (s' : Min
 reported_event old new t r s' k i none next within roomed turns d held =
     subst (λ (v : BookView). IsDone old v event.Pump reply.Moved) (book_is d.tray (held ∙ ap (λ s. reported_at old.held s r.parent r.binding) d.same))
     (reported_done old t r k i none next within (begins_roomed old.tray t roomed.same roomed.covers roomed.slack) turns)
+
+-- the view with other drivers
+pub reported_held : (held : HeldView) (s : MiniportState) (parent : Option OidNo) (n : ℕ) (protocols : List ProtocolState) → protocols ≡ told_of_answer parent n held.protocols → record held { miniport = s; protocols = protocols } ≡ reported_at held s parent n
+reported_held held s parent n protocols e = ap (λ ps. record held { miniport = s; protocols = ps }) e

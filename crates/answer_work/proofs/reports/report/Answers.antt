@@ -1,9 +1,9 @@
-use Rattle.std.proofs.Common.{map, refl, ap}
+use Rattle.std.proofs.Common.{map, refl}
 use Rattle.book_lemmas.specs.Views.{BookView}
 use Rattle.book_parts.specs.Parts.{view_of}
 use Rattle.answer_work.proofs.Asked.{port_up, next_found}
 use Rattle.answer_work.proofs.Bound.{bound_within, bound_items}
-use Rattle.answer_work.proofs.Reported.{reported_event}
+use Rattle.answer_work.proofs.Reported.{reported_event, reported_held}
 use Rattle.answer_work.proofs.reports.report.Goals as goal
 
 pub make_room-requires : goal.make_room-requires
@@ -17,7 +17,7 @@ returns-clause-did g c =
     (reported_event old new c.make_room.new.tray c.args.request.now _ c.requires.book c.requires.idle c.requires.none c.requires.next
     (bound_within old c.args.request.now c.args.request.now.request.0 c.requires.book c.requires.idle (next_found old c.args.request.now c.requires.book c.requires.idle c.requires.next))
     c.in_ok-make_room.ensures.tray c.in_ok-make_room.ensures.ready.turns c.answer-answer.ensures.reports
-    (ap (λ ps. record old.held { miniport = g.M.MiniportCalls.state c.answer-answer.new.miniport; protocols = ps }) c.tell_binding.ensures)).did
+    (reported_held old.held new.held.miniport c.args.request.now.parent c.args.request.now.binding new.held.protocols c.tell_binding.ensures)).did
 
 pub room_at-requires : goal.room_at-requires
 room_at-requires g c =
