@@ -1,6 +1,6 @@
 -- What the laws say of requests and their answers between turns: the answer that is first on its way goes to a filter that
 -- sits at a place and has the request, and the request that is next for the miniport is there while the miniport is set up.
-use Rattle.std.proofs.Common.{◌≡◌, ◌≢◌, ℕ, List, [], ◌∷◌, Option, Some, None, IsSome, refl, sym, ap, ◌∙◌, subst}
+use Rattle.std.proofs.Common.{◌≡◌, ◌≢◌, ℕ, List, [], ◌∷◌, Some, None, IsSome, refl, sym, ap, ◌∙◌, subst}
 use Rattle.ndis_base.specs.declared.ModuleId.TheVariants.{Miniport, Filter, Binding}
 use Rattle.ndis_base.specs.declared.Phase.TheVariants as phase
 use Rattle.journal_types.specs.declared.StackHead.{StackHead}

@@ -1,5 +1,5 @@
 -- Each request of a sound journal is of a binding of the stack: only a binding asks, and a clone has its parent's.
-use Rattle.std.proofs.Common.{◌≡◌, ℕ, ◌<◌, ◌==◌, ◌&&◌, not, Bool, true, false, cond, filter, find, map, nat_lt, nat_le, List, [], ◌∷◌, ◌++◌, Option, Some, None, length, refl, sym, ap, ◌∙◌, subst, arith}
+use Rattle.std.proofs.Common.{◌≡◌, ℕ, ◌<◌, ◌==◌, ◌&&◌, not, Bool, true, false, cond, filter, find, map, nat_lt, nat_le, List, [], ◌∷◌, ◌++◌, Option, Some, None, length, refl, sym, ◌∙◌, subst, arith}
 use Rattle.std.proofs.lemmas.Bool.Decides.{nat_tests}
 use Rattle.std.proofs.lemmas.List.{length-map}
 use Rattle.ndis_base.specs.declared.ModuleId.{ModuleId}
@@ -22,7 +22,7 @@ use Rattle.stack_rules.specs.Drains.{drain_rows, drained, drain_outcome}
 use Rattle.stack_rules.specs.Net.{Net, start, seen, told, after, after_rows, after_turn, after_turns, request_of, given_to}
 use Rattle.stack_rules.specs.Outcome.{Outcome}
 use Rattle.stack_rules.specs.Places.{agenda_first, state_of}
-use Rattle.stack_rules.specs.Pumps.{request_pump, pump_of, pump_outcome, is_pump_moving}
+use Rattle.stack_rules.specs.Pumps.{request_pump, pump_of, is_pump_moving}
 use Rattle.stack_rules.specs.Requests.{Giving, next_giving, giving_rows, given_rows_by, ask_outcome}
 use Rattle.stack_rules.specs.Sound.{Next, Sound, SoundFrom, outcome}
 use Rattle.stack_rules.specs.Tests.{is_unbound}

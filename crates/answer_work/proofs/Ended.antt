@@ -1,5 +1,5 @@
 -- Where a turn ends in which one module was called and the binding that asked is told.
-use Rattle.std.proofs.Common.{◌≡◌, ℕ, ◌≤◌, ◌<◌, List, [], ◌∷◌, ◌++◌, Option, Some, None, length, slice_index_or, slice_set, refl, sym, ap, ◌∙◌, subst, arith}
+use Rattle.std.proofs.Common.{◌≡◌, ℕ, ◌≤◌, ◌<◌, List, [], ◌++◌, Option, Some, None, length, slice_index_or, slice_set, refl, sym, ap, ◌∙◌, subst, arith}
 use Rattle.std.proofs.lemmas.List.{set-get_or}
 use Rattle.std.proofs.lemmas.List.Elements.{All-nil}
 use Rattle.ndis_base.specs.declared.ModuleId.{ModuleId}
@@ -11,9 +11,7 @@ use Rattle.stack_rules.specs.Net.{Net, after_rows}
 use Rattle.promise_rules.specs.declared.Call.{Call}
 use Rattle.promise_rules.specs.declared.Called.TheVariants as called
 use Rattle.promise_rules.specs.Calls.{call}
-use Rattle.agenda_items.specs.declared.Carried.{Carried}
 use Rattle.driver_views.specs.States.{ProtocolState}
-use Rattle.hand_lemmas.specs.Hands.{Hands}
 use Rattle.driver_tray.specs.Tray.{TrayView}
 use Rattle.book_lemmas.specs.Called.{IsCalled, protocol_called}
 use Rattle.book_lemmas.specs.Did.{Did, asker_now}
@@ -77,3 +75,7 @@ ends_told {old} {b} {t} {m} {rows} {calls} {kept} mid parent n pool k g i c l ri
       did = subst (λ (x : Net). Did old.held.seats old.held (told mid parent n) x rows) g.net (did_tally i tally);
       stands = stands_told t mid parent n stands within pools;
     }
+
+-- a book by its parts
+pub book_is : {new : BookView} {t : TrayView} {h : HeldView} → new.tray ≡ t → new.held ≡ h → record { tray = t; held = h } ≡ new
+book_is {new} {t} {h} e f = ap (λ x. record { tray = x; held = h }) (sym e) ∙ ap (λ x. record { tray = new.tray; held = x }) (sym f)

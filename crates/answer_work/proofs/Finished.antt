@@ -1,5 +1,5 @@
 -- An answer at a filter is worked as the rules have it.
-use Rattle.std.proofs.Common.{◌≡◌, ℕ, ◌≤◌, ◌<◌, Bool, false, List, [], ◌∷◌, ◌++◌, Option, Some, length, slice_set, map, refl, sym, ap, ◌∙◌, subst, arith}
+use Rattle.std.proofs.Common.{◌≡◌, ℕ, ◌≤◌, ◌<◌, Bool, false, List, [], ◌++◌, Option, Some, length, slice_set, refl, sym, ap, ◌∙◌, subst, arith}
 use Rattle.std.proofs.lemmas.List.{set-get_or}
 use Rattle.std.proofs.lemmas.List.Elements.{All-nil}
 use Rattle.ndis_base.specs.declared.ModuleId.{ModuleId}
@@ -10,7 +10,6 @@ use Rattle.journal_types.specs.declared.Reply.TheVariants as reply
 use Rattle.buffer_pools.specs.Views.{PoolView}
 use Rattle.stack_rules.specs.declared.Answered.{Answered}
 use Rattle.stack_rules.specs.declared.Request.{Request}
-use Rattle.stack_rules.specs.declared.RequestAt.{RequestAt}
 use Rattle.stack_rules.specs.declared.RequestAt.TheVariants as at
 use Rattle.stack_rules.specs.declared.Thing.TheVariants as thing
 use Rattle.stack_rules.specs.Net.{Net, request_of}
@@ -18,7 +17,6 @@ use Rattle.stack_rules.specs.Outcome.{Outcome}
 use Rattle.stack_rules.specs.Places.{agenda_first}
 use Rattle.stack_rules.specs.Pumps.{pump_of, pump_outcome}
 use Rattle.stack_rules.specs.Requests.{answer_rows}
-use Rattle.promise_rules.specs.declared.Call.{Call}
 use Rattle.promise_rules.specs.declared.Called.TheVariants as called
 use Rattle.promise_rules.specs.Calls.{call}
 use Rattle.driver_views.specs.States.{FilterState, ProtocolState, called_for}
@@ -40,7 +38,7 @@ use Rattle.filter_work.specs.Works.{called_with}
 use Rattle.answer_work.specs.Told.{told_of_answer}
 use Rattle.answer_work.specs.Works.{holder_in, FinishesFirst}
 use Rattle.answer_work.proofs.Asked.{first_away, given_is}
-use Rattle.answer_work.proofs.Ended.{told, tally_told, ends_told}
+use Rattle.answer_work.proofs.Ended.{told, tally_told, ends_told, book_is}
 
 -- what the rules say of it
 pump_is : (net : Net) (keeps : Bool) (a : Answered) → agenda_first net ≡ Some (thing.Answer a) → pump_outcome net keeps ≡ record { reply = reply.Moved; rows = answer_rows a.parent a.status a.value }
@@ -96,9 +94,6 @@ finished_done old t a r f place k i first found given seat within begins turns =
       turn = record { room = omega (arith, turns, done.used.turns) };
     } in
     subst (λ (q : HeldView). IsDone old (record { tray = record left { pool = t.pool }; held = told q r.parent r.binding }) event.Pump reply.Moved) (same_pool old.held place (finished s)) all
-
-book_is : {new : BookView} {t : TrayView} {h : HeldView} → new.tray ≡ t → new.held ≡ h → record { tray = t; held = h } ≡ new
-book_is {new} {t} {h} e f = ap (λ x. record { tray = x; held = h }) (sym e) ∙ ap (λ x. record { tray = new.tray; held = x }) (sym f)
 
 -- the whole event
 pub finished_event : (old new : BookView) (a : Answered) (r : Request) (f place : ℕ) (s' : FilterState) → IsBook old → IsIdle old → first_answer old.tray.queue ≡ Some a → request_of a.parent.0 old.tray.net.requests ≡ Some r → holder_in r.at ≡ Some f

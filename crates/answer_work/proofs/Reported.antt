@@ -1,5 +1,5 @@
 -- The miniport answers a request as the rules have it.
-use Rattle.std.proofs.Common.{◌≡◌, ℕ, ◌≤◌, ◌<◌, ◌==◌, cond, Bool, true, false, List, [], ◌∷◌, ◌++◌, Option, Some, None, option_map, length, map, refl, sym, ap, ◌∙◌, subst, arith, eq-eqb}
+use Rattle.std.proofs.Common.{◌≡◌, ℕ, ◌≤◌, ◌<◌, cond, Bool, false, List, [], ◌++◌, Option, Some, None, option_map, length, refl, sym, ap, ◌∙◌, subst, arith, eq-eqb}
 use Rattle.ndis_base.specs.declared.ModuleId.TheVariants.{Miniport}
 use Rattle.ndis_base.specs.declared.OidNo.{OidNo}
 use Rattle.journal_types.specs.declared.Event.TheVariants as event
@@ -35,7 +35,7 @@ use Rattle.filter_work.specs.Works.{IsRoomed}
 use Rattle.answer_work.specs.Told.{told_of_answer}
 use Rattle.answer_work.specs.Works.{reported, asked, Reports}
 use Rattle.answer_work.proofs.Asked.{nothing_away, next_found}
-use Rattle.answer_work.proofs.Ended.{told, tally_told, ends_told}
+use Rattle.answer_work.proofs.Ended.{told, tally_told, ends_told, book_is}
 
 -- what is given to the miniport
 abbrev pub giving : Request → Giving
@@ -80,9 +80,6 @@ reported_done old t r k i none next within begins turns =
           (ap (λ (n : Net). giving_rows n (giving r)) g.net ∙ sym (ap (λ (o : Outcome). o.rows) outcome_is)) refl tt (refl, refl);
       turn = record { room = omega (arith, turns, done.used.turns) };
     }
-
-book_is : {new : BookView} {t : TrayView} {h : HeldView} → new.tray ≡ t → new.held ≡ h → record { tray = t; held = h } ≡ new
-book_is {new} {t} {h} e f = ap (λ x. record { tray = x; held = h }) (sym e) ∙ ap (λ x. record { tray = new.tray; held = x }) (sym f)
 
 -- the whole event
 pub reported_event : (old new : BookView) (t : TrayView) (r : Request) (s' : MiniportState) → IsBook old → IsIdle old → first_way old.tray.queue ≡ None → next_giving old.tray.net ≡ Some (giving r) → r.binding < length old.held.protocols

@@ -1,6 +1,6 @@
 -- A request is done: the filter that it was given to completes it, and its binding hears of it where it is no clone. The
 -- two are called for one row.
-use Rattle.std.proofs.Common.{◌≡◌, ℕ, ◌+◌, ◌≤◌, ◌<◌, ◌==◌, ◌&&◌, not, Bool, true, false, filter, List, [], ◌∷◌, ◌++◌, Option, Some, None, All, length, slice_index_or, slice_set, sum_by, count_by, refl, sym, ap, ◌∙◌, subst, arith, append-nil, get_or-set_same, get_or-set_other, eq-eqb, ne_eqb, ◌⊎◌, inl, inr}
+use Rattle.std.proofs.Common.{◌≡◌, ℕ, ◌+◌, ◌≤◌, ◌<◌, ◌&&◌, not, Bool, true, false, filter, List, [], ◌∷◌, ◌++◌, Option, Some, None, All, length, slice_index_or, slice_set, sum_by, count_by, refl, sym, ap, ◌∙◌, subst, arith, append-nil, get_or-set_same, get_or-set_other, eq-eqb, ne_eqb, ◌⊎◌, inl, inr}
 use Rattle.std.proofs.lemmas.Bool.{cases_eq}
 use Rattle.std.proofs.lemmas.List.Sums.{sum_by-cons}
 use Rattle.std.proofs.lemmas.List.Elements.{All-nil, All-cons, All-append, All-filter}
@@ -11,9 +11,9 @@ use Rattle.ndis_base.specs.declared.OidStatus.{OidStatus}
 use Rattle.flat_journal.proofs.Grown.{grown_by_frames}
 use Rattle.journal_types.specs.declared.Row.{Row}
 use Rattle.journal_types.specs.declared.Row.TheVariants as row
-use Rattle.buffer_pools.specs.Views.{ListView, PoolView}
+use Rattle.buffer_pools.specs.Views.{ListView}
 use Rattle.stack_rules.specs.declared.Request.{Request}
-use Rattle.stack_rules.specs.Net.{Net, after, request_of}
+use Rattle.stack_rules.specs.Net.{after, request_of}
 use Rattle.stack_rules.specs.Tests.{same_module}
 use Rattle.rule_basics.proofs.Counts.{count_by-cons, one_if}
 use Rattle.promise_rules.specs.declared.Call.{Call}
@@ -29,7 +29,6 @@ use Rattle.hand_lemmas.proofs.Rows.{oid_done}
 use Rattle.book_lemmas.specs.Called.{SitsAt}
 use Rattle.book_lemmas.specs.Did.{Did, IsServed, IsIdle, KeepsCounts, completes, logs_in}
 use Rattle.book_lemmas.specs.Stands.{IsCarriedSized}
-use Rattle.book_lemmas.specs.Turns.{is_way}
 use Rattle.book_lemmas.specs.Views.{HeldView, no_filter, no_protocol, filter_at, seat_of, IsVacant}
 use Rattle.book_lemmas.proofs.Keeps.{keeps_same, keeps_set, keeps_then}
 use Rattle.driver_tray.specs.Tray as tray

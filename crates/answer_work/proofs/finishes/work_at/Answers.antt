@@ -1,5 +1,3 @@
-use Rattle.std.proofs.Common.{IsSome, subst}
-use Rattle.driver_views.specs.States.{FilterState}
 use Rattle.filter_work.proofs.Parts.{old_at, new_at, set_at, same_at, on_err}
 use Rattle.answer_work.proofs.finishes.work_at.Goals as goal
 
