@@ -4,6 +4,7 @@
 
 pub mod finishes;
 pub mod reports;
+mod tellings;
 
 pub use crate::finishes::finish;
 pub use crate::reports::report;

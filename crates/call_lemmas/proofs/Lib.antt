@@ -8,3 +8,4 @@ pub mod Homewards
 pub mod Deliveries
 pub mod Statuses
 pub mod Requests
+pub mod Answers
