@@ -38,6 +38,7 @@ use Rattle.filter_work.specs.Works.{called_with}
 use Rattle.answer_work.specs.Told.{told_of_answer}
 use Rattle.answer_work.specs.Works.{holder_in, FinishesFirst}
 use Rattle.answer_work.proofs.Asked.{first_away, given_is}
+use Rattle.answer_work.proofs.Bound.{bound_within}
 use Rattle.answer_work.proofs.Ended.{told, tally_told, ends_told, book_is}
 
 -- what the rules say of it
@@ -97,11 +98,11 @@ finished_done old t a r f place k i first found given seat within begins turns =
 
 -- the whole event
 pub finished_event : (old new : BookView) (a : Answered) (r : Request) (f place : ℕ) (s' : FilterState) → IsBook old → IsIdle old → first_answer old.tray.queue ≡ Some a → request_of a.parent.0 old.tray.net.requests ≡ Some r → holder_in r.at ≡ Some f
-    → seat_of old.held.seats f ≡ Some place → r.binding < length old.held.protocols → FinishesFirst f a (filter_at old.held.filters (Some place)) old.tray s' new.tray
+    → seat_of old.held.seats f ≡ Some place → FinishesFirst f a (filter_at old.held.filters (Some place)) old.tray s' new.tray
     → new.held ≡ finished_at old.held place s' r.parent r.binding → IsDone old new event.Pump reply.Moved
-finished_event old new a r f place s' k i first found given seat within d held =
+finished_event old new a r f place s' k i first found given seat d held =
     subst (λ (v : BookView). IsDone old v event.Pump reply.Moved) (book_is d.finishes.tray (held ∙ ap (λ s. finished_at old.held place s r.parent r.binding) d.finishes.same))
-    (finished_done old d.begun a r f place k i first found (given_is r.at f given) seat within (begins_roomed old.tray d.begun d.roomed.same d.roomed.covers d.roomed.slack) d.turns)
+    (finished_done old d.begun a r f place k i first found (given_is r.at f given) seat (bound_within old r a.parent.0 k i found) (begins_roomed old.tray d.begun d.roomed.same d.roomed.covers d.roomed.slack) d.turns)
 
 -- the view with other drivers
 pub finished_held : (held : HeldView) (place : ℕ) (s : FilterState) (filters : List FilterState) (parent : Option OidNo) (n : ℕ) (protocols : List ProtocolState)

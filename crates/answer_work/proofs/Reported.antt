@@ -35,6 +35,7 @@ use Rattle.filter_work.specs.Works.{IsRoomed}
 use Rattle.answer_work.specs.Told.{told_of_answer}
 use Rattle.answer_work.specs.Works.{reported, asked, Reports}
 use Rattle.answer_work.proofs.Asked.{nothing_away, next_found}
+use Rattle.answer_work.proofs.Bound.{bound_within}
 use Rattle.answer_work.proofs.Ended.{told, tally_told, ends_told, book_is}
 
 -- what is given to the miniport
@@ -81,12 +82,16 @@ reported_done old t r k i none next within begins turns =
       turn = record { room = omega (arith, turns, done.used.turns) };
     }
 
+-- the request that the miniport is given next is of a binding that has a protocol
+pub next_bound : (old : BookView) (r : Request) → IsBook old → IsIdle old → next_giving old.tray.net ≡ Some (giving r) → r.binding < length old.held.protocols
+next_bound old r k i next = bound_within old r r.request.0 k i (next_found old r k i next)
+
 -- the whole event
-pub reported_event : (old new : BookView) (t : TrayView) (r : Request) (s' : MiniportState) → IsBook old → IsIdle old → first_way old.tray.queue ≡ None → next_giving old.tray.net ≡ Some (giving r) → r.binding < length old.held.protocols
+pub reported_event : (old new : BookView) (t : TrayView) (r : Request) (s' : MiniportState) → IsBook old → IsIdle old → first_way old.tray.queue ≡ None → next_giving old.tray.net ≡ Some (giving r)
     → IsRoomed old.tray t → 1 ≤ t.room.turns → Reports r old.held.miniport t s' new.tray → new.held ≡ reported_at old.held s' r.parent r.binding → IsDone old new event.Pump reply.Moved
-reported_event old new t r s' k i none next within roomed turns d held =
+reported_event old new t r s' k i none next roomed turns d held =
     subst (λ (v : BookView). IsDone old v event.Pump reply.Moved) (book_is d.tray (held ∙ ap (λ s. reported_at old.held s r.parent r.binding) d.same))
-    (reported_done old t r k i none next within (begins_roomed old.tray t roomed.same roomed.covers roomed.slack) turns)
+    (reported_done old t r k i none next (next_bound old r k i next) (begins_roomed old.tray t roomed.same roomed.covers roomed.slack) turns)
 
 -- the view with other drivers
 pub reported_held : (held : HeldView) (s : MiniportState) (parent : Option OidNo) (n : ℕ) (protocols : List ProtocolState) → protocols ≡ told_of_answer parent n held.protocols → record held { miniport = s; protocols = protocols } ≡ reported_at held s parent n

@@ -39,5 +39,5 @@ returns-clause-did g c =
     let old : BookView = view_of g.M.MiniportCalls.state g.P.ProtocolCalls.state g.F.FilterCalls.state c.args.book.now in
     let new : BookView = record { tray = c.work_at.new.tray; held = record old.held { filters = map g.F.FilterCalls.state c.work_at.new.filters.items; protocols = map g.P.ProtocolCalls.state c.tell_binding.new.protocols.items } } in
     (finished_event old new c.args.answer.now c.args.asked.now c.args.f c.in-Some.place _ c.requires.book c.requires.idle c.requires.first c.requires.asked c.requires.at
-    (ap (λ seats. seat_of seats c.args.f) (sym c.as_slice.ensures.value) ∙ sym c.place_of.ensures ∙ c.in-Some.is) (bound_within old c.args.asked.now c.args.answer.now.parent.0 c.requires.book c.requires.idle c.requires.asked) c.in_ok-work_at.ensures.finishes
+    (ap (λ seats. seat_of seats c.args.f) (sym c.as_slice.ensures.value) ∙ sym c.place_of.ensures ∙ c.in-Some.is) c.in_ok-work_at.ensures.finishes
     (finished_held old.held c.in-Some.place _ new.held.filters c.args.asked.now.parent c.args.asked.now.binding new.held.protocols c.work_at.ensures.filters c.tell_binding.ensures)).did
