@@ -1,3 +1,2 @@
-pub mod Blocking
 pub mod Counting
 pub mod States

@@ -1,10 +1,10 @@
 //! Lists counted by the EtherType of their first frame.
-ghost use Rattle.std.specs.Prelude.{◌≡◌, ◌+◌, ◌<◌, length};
-ghost use Rattle.program_types.specs.Apply.{pair_at};
+ghost use Rattle.std.specs.Prelude.{◌≡◌, ◌+◌, ◌<◌};
 ghost use Rattle.hand_lemmas.specs.Frames.{AreSized};
 ghost use Rattle.own_filter.specs.Counting.{one_more, counted, counted_list};
 
 use buffer_pools::BufferList;
+use classify_filters::ethertype_of;
 
 /// How many lists were given of each EtherType (IEEE 802 Numbers).
 #[derive(Clone, Copy, Debug, PartialEq, Eq)]
@@ -13,14 +13,6 @@ pub struct Counts {
     pub arp: u64,
     pub ipv6: u64,
     pub other: u64,
-}
-
-/// The EtherType of a frame, which stands behind the two addresses.
-pub(crate) fn ethertype_of(frame: &[u8]) -> u16
-    requires { 13 < length frame.now }
-    ensures { result ≡ pair_at frame.now 12 }
-{
-    u16::from_be_bytes([frame[12], frame[13]])
 }
 
 fn one_more(count: u64) -> u64

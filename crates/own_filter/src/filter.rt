@@ -1,22 +1,21 @@
 //! What the filter does when it is called.
-ghost use Rattle.std.specs.Prelude.{◌≡◌, ◌↔◌, [], None, Some, IsOk, OnOk, OnErr, IfErr, IsTrue};
+ghost use Rattle.std.specs.Prelude.{◌≡◌, ◌↔◌, Some, IsOk, OnOk, OnErr, IfErr, IsTrue};
 ghost use Rattle.ndis_base.specs.declared.Direction.TheVariants as direction;
 ghost use Rattle.ndis_base.specs.declared.FilterKind.TheVariants.{Rule};
 ghost use Rattle.promise_rules.specs.declared.Called.TheVariants as called;
-ghost use Rattle.buffer_pools.specs.Views.{IsOf};
 ghost use Rattle.driver_calls.specs.declared.faults.AttachFault.TheVariants.{Refused};
-ghost use Rattle.driver_calls.specs.Rooms.{HasRoomFor};
-ghost use Rattle.driver_calls.specs.Filters.{MayHandle, IsHandled, IsLentTo, Completes, Refuses};
-ghost use Rattle.frame_filters.specs.Filters.{new_filter, keeping};
-ghost use Rattle.own_filter.specs.Blocking.{is_blocking};
+ghost use Rattle.driver_calls.specs.Filters.{MayHandle, IsHandled, IsLentTo, Refuses};
+ghost use Rattle.frame_filters.specs.Filters.{new_filter};
+ghost use Rattle.classify_filters.specs.Blocking.{is_blocking};
 ghost use Rattle.own_filter.specs.Counting.{counted_list};
 ghost use Rattle.own_filter.specs.States.{state_of};
 
-use crate::blocking::{block, is_blocking, lent};
 use crate::board::Board;
+use crate::class::EtherTypeClass;
 use crate::counts::Counts;
 use crate::parts::EtherTypeFilter;
 use buffer_pools::BufferList;
+use classify_filters::{block, is_blocking, lent, pass_home};
 use driver_calls::{AttachFault, FilterDriver, LentFate};
 use driver_tray::Tray;
 use driver_views::Served;
@@ -29,26 +28,13 @@ use stack_rules::Request;
 use std::alloc::Global;
 use std::sync::Arc;
 
-/// A filter that keeps no list passes another module's list homewards, and takes a list of its own home.
-fn pass_home(list: BufferList, status: ListStatus, tray: &mut Tray)
-    requires own { list.label.owner ≡ tray.old.caller → IsOf tray.old.pool list }
-    requires room { HasRoomFor 2 1 tray.old }
-    ensures { Completes (keeping []) list status tray.old [] tray.new }
-{
-    if list.owner() == tray.caller() {
-        tray.spend(list, status);
-    } else {
-        tray.pass_back(list, status);
-    }
-}
-
 impl EtherTypeFilter {
     /// A filter on the shelf that was never called. It tells what it counted on the board.
     pub fn make(blocked: u16, board: Arc<Board, Global>) -> EtherTypeFilter
         ensures { ⟦<EtherTypeFilter as FilterDriver>⟧.state result ≡ new_filter Rule }
     {
         EtherTypeFilter {
-            blocked,
+            class: EtherTypeClass { number: blocked },
             setup: None,
             served: not_called(),
             refusals: 0,
@@ -86,11 +72,11 @@ impl FilterDriver for EtherTypeFilter {
     /// It refuses exactly the programs that say anything else.
     fn attach(&mut self, _alloc: Global, setup: Setup) -> Result<(), AttachFault>
         ensures attached { OnOk result (state_of self.new ≡ record (state_of self.old) { setup = Some setup }) }
-        ensures fits { IsOk result ↔ IsTrue (is_blocking self.old.blocked setup) }
+        ensures fits { IsOk result ↔ IsTrue (is_blocking self.old.class.number setup) }
         ensures refused { IfErr result (λ fault. fault ≡ Refused) }
         ensures refuses { OnErr result (Refuses (state_of self.old) (state_of self.new)) }
     {
-        if is_blocking(self.blocked, &setup) {
+        if is_blocking(self.class.number, &setup) {
             self.setup = Some(setup);
             Ok(())
         } else {
@@ -106,7 +92,7 @@ impl FilterDriver for EtherTypeFilter {
     {
         self.served.send += 1;
         self.seen.add_list(&list);
-        block(self.blocked, list, tray);
+        block(&self.class, list, tray);
     }
 
     fn send_complete(&mut self, list: BufferList, status: ListStatus, tray: &mut Tray) {
@@ -121,7 +107,7 @@ impl FilterDriver for EtherTypeFilter {
     {
         self.served.receive += 1;
         self.seen.add_list(&list);
-        block(self.blocked, list, tray);
+        block(&self.class, list, tray);
     }
 
     /// It leaves a lent list or drops it, and never copies one.
@@ -132,7 +118,7 @@ impl FilterDriver for EtherTypeFilter {
     {
         self.served.receive_lent += 1;
         self.seen.add_list(list);
-        lent(self.blocked, list)
+        lent(&self.class, list)
     }
 
     fn returned(&mut self, list: BufferList, status: ListStatus, tray: &mut Tray) {

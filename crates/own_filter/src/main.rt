@@ -2,8 +2,8 @@
 //! the filter counted.
 #![tactic(auto)]
 
-pub mod blocking;
 pub mod board;
+pub mod class;
 pub mod counts;
 pub mod filter;
 pub mod parts;

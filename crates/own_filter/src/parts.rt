@@ -1,9 +1,10 @@
 //! What the filter is made of.
 ghost use Rattle.std.specs.Prelude.{◌≡◌, true};
 ghost use Rattle.std.specs.Option.{ForSome};
-ghost use Rattle.own_filter.specs.Blocking.{is_blocking};
+ghost use Rattle.classify_filters.specs.Blocking.{is_blocking};
 
 use crate::board::Board;
+use crate::class::EtherTypeClass;
 use crate::counts::Counts;
 use driver_views::Served;
 use journal_types::Setup;
@@ -14,11 +15,11 @@ use std::sync::Arc;
 /// one EtherType. It attaches with the programs that say just that, and refuses any others.
 #[derive(Drop)]
 pub struct EtherTypeFilter {
-    pub(crate) blocked: u16,
+    pub(crate) class: EtherTypeClass,
     pub(crate) setup: Option<Setup>,
     pub(crate) served: Served,
     pub(crate) refusals: u64,
     pub(crate) seen: Counts,
     pub(crate) board: Arc<Board, Global>,
-    ghost blocks: { ForSome setup (λ s. is_blocking blocked s ≡ true) },
+    ghost blocks: { ForSome setup (λ s. is_blocking class.number s ≡ true) },
 }

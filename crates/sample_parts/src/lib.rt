@@ -8,6 +8,7 @@ ghost use Rattle.book_opening.specs.Opened.{IsHaltedDriver, IsClosedDriver};
 
 use binding_protocols::{EchoProtocol, LogProtocol, RetainProtocol};
 use book_opening::StackDrivers;
+use classify_filters::{ClassifyFilter, LldpClass};
 use driver_calls::{
     FilterCalls, FilterDriver, MiniportCalls, MiniportDriver, ProtocolCalls, ProtocolDriver,
 };
@@ -147,6 +148,7 @@ pub fn call_over<S: Source, K: Sink>(
         shelf.push(Box::new(alloc, CountFilter::make(alloc)?)?)?;
         shelf.push(Box::new(alloc, RuleFilter::make(alloc)?)?)?;
         shelf.push(Box::new(alloc, TagFilter::make(alloc)?)?)?;
+        shelf.push(Box::new(alloc, ClassifyFilter::make(alloc, LldpClass)?)?)?;
     }
     let mut parts = Vec::with_capacity(alloc, 1)?;
     parts.push(StackDrivers {

@@ -51,27 +51,14 @@ rings miniport_kind.Ring e = refl
 rings miniport_kind.Loop e = refl
 rings miniport_kind.Virtual e = differ e
 
-all_fine : (fs : List FilterSetup) → list_all form.is_built_filter fs ≡ true → list_all is_fine fs ≡ true
-all_fine [] e = refl
-all_fine (f ∷ fs) e =
-    let parts = both_true (form.is_built_filter f) (list_all form.is_built_filter fs) e in
-    ap (λ b. b && list_all is_fine fs) (both_true (form.is_built_kind f.kind) (is_fine f) parts.0).1 ∙ all_fine fs parts.1
-
 at_most : (n m : ℕ) → nat_le n m ≡ true → n ≤ m
 at_most n m e = grind (arith, nat_tests, e)
-
--- a call that can be made may be asked
-all_asked : (head : StackHead) (cs : List Call) → list_all (form.is_built_call head) cs ≡ true → list_all (is_asked_call head) cs ≡ true
-all_asked head [] e = refl
-all_asked head (c ∷ cs) e =
-    let parts = both_true (form.is_built_call head c) (list_all (form.is_built_call head) cs) e in
-    ap (λ b. b && list_all (is_asked_call head) cs) (both_true (is_asked_call head c) (form.is_built_change c.kind) parts.0).0 ∙ all_asked head cs parts.1
 
 pub runnable : (script : Script) (s : List StackSetup) (stack : StackSetup) (cs : List Call) → form.is_built script ≡ true → s ≡ script.stacks → s ≡ stack ∷ [] → cs ≡ script.calls → IsRunnable stack cs
 runnable script s stack cs built same only calls =
     let are : form.are_built script.stacks script.calls ≡ true = (both_true (list_all (is_below script.lanes) script.calls) (form.are_built script.stacks script.calls) built).1 in
     let one : form.are_built (stack ∷ []) script.calls ≡ true = ap (λ ss. form.are_built ss script.calls) (sym only ∙ same) ∙ are in
-    let a = both_true (form.is_built_stack stack) (list_all (form.is_built_call (form.head_of stack)) script.calls) one in
+    let a = both_true (form.is_built_stack stack) (list_all (is_asked_call (form.head_of stack)) script.calls) one in
     let b = both_true (form.is_built_miniport stack.miniport.kind) _ a.0 in
     let c = both_true (is_between 1 8 (length stack.bindings)) _ b.1 in
     let d = both_true (list_all form.is_built_binding stack.bindings) _ c.1 in
@@ -80,8 +67,8 @@ runnable script s stack cs built same only calls =
       ring = rings stack.miniport.kind b.0;
       bound = at_most 1 (length stack.bindings) (both_true (nat_le 1 (length stack.bindings)) (nat_le (length stack.bindings) 8) c.0).0;
       few = at_most (length stack.filters) 16 e.0;
-      fine = all_fine stack.filters e.1;
-      asked = ap (list_all (is_asked_call (form.head_of stack))) calls ∙ all_asked (form.head_of stack) script.calls a.1;
+      fine = e.1;
+      asked = ap (list_all (is_asked_call (form.head_of stack))) calls ∙ a.1;
     }
 
 -- a stack that was just opened may be run

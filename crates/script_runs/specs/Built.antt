@@ -1,8 +1,6 @@
 -- Which scripts can be run, and what their run gives.
 use Rattle.std.specs.Prelude.{◌≡◌, ℕ, ◌&&◌, nat_le, Bool, true, false, List, [], ◌∷◌, length}
 use Rattle.std.specs.List.{list_all}
-use Rattle.ndis_base.specs.declared.FilterKind.{FilterKind}
-use Rattle.ndis_base.specs.declared.FilterKind.TheVariants as filter_kind
 use Rattle.ndis_base.specs.declared.LaneNo.{LaneNo}
 use Rattle.ndis_base.specs.declared.MiniportKind.{MiniportKind}
 use Rattle.ndis_base.specs.declared.MiniportKind.TheVariants as miniport_kind
@@ -10,15 +8,13 @@ use Rattle.ndis_base.specs.declared.ProtocolKind.{ProtocolKind}
 use Rattle.ndis_base.specs.declared.ProtocolKind.TheVariants as protocol_kind
 use Rattle.journal_types.specs.declared.StackHead.{StackHead}
 use Rattle.journal_types.specs.declared.Turn.{Turn}
-use Rattle.stack_rules.specs.Conditions.{is_between, is_setup}
+use Rattle.stack_rules.specs.Conditions.{is_between}
 use Rattle.stack_rules.specs.Sound.{Sound}
 use Rattle.script_types.specs.declared.Script.{Script}
 use Rattle.script_types.specs.declared.StackSetup.{StackSetup}
-use Rattle.script_types.specs.declared.FilterSetup.{FilterSetup}
 use Rattle.script_types.specs.declared.Call.{Call}
-use Rattle.script_types.specs.declared.CallKind.{CallKind}
-use Rattle.script_types.specs.declared.CallKind.TheVariants as ask
 use Rattle.promise_rules.specs.Followed.{IsFollowed, IsOpenedAndEnded}
+use Rattle.book_runs.specs.Runs.{is_fine}
 use Rattle.lane_orders.specs.Orders.{is_below, ordered}
 use Rattle.book_scripts.specs.Laws.{MeetsLaws}
 use Rattle.book_scripts.specs.Orders.{CallsInOrder}
@@ -28,8 +24,7 @@ use Rattle.book_scripts.specs.Scripts.{is_asked_call}
 abbrev pub head_of : StackSetup → StackHead
 head_of s = record { stack = 0; kind = s.miniport.kind; port = s.miniport.port; link = s.miniport.link; bindings = s.bindings; uppers = [] }
 
--- the kinds of drivers that can be run: adapters with a ring, protocols that log, retain or echo, and filters of every
--- kind but those that classify
+-- the drivers that can be run: adapters with a ring, protocols that log, retain or echo, and filters of any kind
 abbrev pub is_built_miniport : MiniportKind → Bool
 is_built_miniport miniport_kind.Virtual = false
 is_built_miniport _ = true
@@ -38,30 +33,15 @@ abbrev pub is_built_binding : (ProtocolKind × ℕ) → Bool
 is_built_binding (protocol_kind.Mux, pool) = false
 is_built_binding _ = true
 
-abbrev pub is_built_kind : FilterKind → Bool
-is_built_kind filter_kind.Classify = false
-is_built_kind _ = true
-
-abbrev pub is_built_filter : FilterSetup → Bool
-is_built_filter f = is_built_kind f.kind && is_setup f.setup
-
--- a stack that can be run: such an adapter below 1 to 8 such protocols, and at most 16 such filters
+-- a stack that can be run: such an adapter below 1 to 8 such protocols, and at most 16 filters whose set-up is fine
 abbrev pub is_built_stack : StackSetup → Bool
 is_built_stack s =
     is_built_miniport s.miniport.kind
-    && (is_between 1 8 (length s.bindings) && (list_all is_built_binding s.bindings && (nat_le (length s.filters) 16 && list_all is_built_filter s.filters)))
+    && (is_between 1 8 (length s.bindings) && (list_all is_built_binding s.bindings && (nat_le (length s.filters) 16 && list_all is_fine s.filters)))
 
--- a call that can be made: where it puts a filter in, one of such a kind
-abbrev pub is_built_change : CallKind → Bool
-is_built_change (ask.Insert position kind setup) = is_built_kind kind
-is_built_change (ask.Replace filter kind setup) = is_built_kind kind
-is_built_change _ = true
-
-abbrev pub is_built_call : StackHead → Call → Bool
-is_built_call head c = is_asked_call head c && is_built_change c.kind
-
+-- and calls that may be asked of it
 abbrev pub are_built : List StackSetup → List Call → Bool
-are_built (s ∷ []) calls = is_built_stack s && list_all (is_built_call (head_of s)) calls
+are_built (s ∷ []) calls = is_built_stack s && list_all (is_asked_call (head_of s)) calls
 are_built _ calls = false
 
 -- a script that can be run: one stack, and calls of the script's lanes

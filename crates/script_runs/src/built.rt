@@ -5,25 +5,25 @@ ghost use Rattle.stack_rules.specs.Conditions.{is_between, is_cancel, is_identif
 ghost use Rattle.journal_types.specs.declared.StackHead.{StackHead};
 ghost use Rattle.script_events.specs.Events.{event_of};
 ghost use Rattle.lane_orders.specs.Orders.{is_below};
+ghost use Rattle.book_runs.specs.Runs.{is_fine};
 ghost use Rattle.book_scripts.specs.Scripts.{is_asked_event, is_asked_call};
 ghost use Rattle.script_runs.specs.Built as form;
 
 use journal_types::{BindingSetups, Setup, StackHead, UpperLinks};
-use ndis_base::{FilterKind, Frame, ListNo, MiniportKind, OutOfMemory, ProtocolKind};
+use ndis_base::{Frame, ListNo, MiniportKind, OutOfMemory, ProtocolKind};
 use program_types::{Rule, Test};
 use script_types::{Call, CallKind, FilterSetup, Script, StackSetup};
 use std::alloc::Global;
 
 /// Whether a script can be run: one stack of an adapter with a ring, of 1 to 8 protocols that
-/// log, retain or echo, and of at most 16 filters that don't classify; and calls of the script's lanes
-/// that send, indicate, lend, give back, cancel, tell statuses, ask requests, transmit, pump, drain, pause, restart, or
-/// change the filters by such.
+/// log, retain or echo, and of at most 16 filters; and calls of the script's lanes that send, indicate, lend,
+/// give back, cancel, tell statuses, ask requests, transmit, pump, drain, pause, restart, or change the filters.
 pub fn is_built(script: &Script) -> bool
     ensures { result ≡ form.is_built script.now }
 {
     are_below(script.lanes, script.calls.items())
         && match script.stacks.items() {
-            [stack] => is_built_stack(stack) && are_built_calls(stack, script.calls.items()),
+            [stack] => is_built_stack(stack) && are_asked_calls(stack, script.calls.items()),
             _ => false,
         }
 }
@@ -62,24 +62,12 @@ fn are_built_bindings(bindings: &[(ProtocolKind, usize)]) -> bool
 }
 
 fn are_built_filters(filters: &[FilterSetup]) -> bool
-    ensures { result ≡ list_all form.is_built_filter filters.now }
+    ensures { result ≡ list_all is_fine filters.now }
 {
     match filters {
-        [first, rest @ ..] => is_built_filter(first) && are_built_filters(rest),
+        [first, rest @ ..] => is_setup(&first.setup) && are_built_filters(rest),
         [] => true,
     }
-}
-
-fn is_built_filter(filter: &FilterSetup) -> bool
-    ensures { result ≡ form.is_built_filter filter.now }
-{
-    is_built_kind(filter.kind) && is_setup(&filter.setup)
-}
-
-fn is_built_kind(kind: FilterKind) -> bool
-    ensures { result ≡ form.is_built_kind kind }
-{
-    !matches!(kind, FilterKind::Classify)
 }
 
 fn is_setup(setup: &Setup) -> bool
@@ -114,25 +102,10 @@ fn is_fine_test(test: Test) -> bool
     }
 }
 
-fn are_built_calls(stack: &StackSetup, calls: &[Call]) -> bool
-    ensures { result ≡ list_all (form.is_built_call (form.head_of stack.now)) calls.now }
+fn are_asked_calls(stack: &StackSetup, calls: &[Call]) -> bool
+    ensures { result ≡ list_all (is_asked_call (form.head_of stack.now)) calls.now }
 {
-    calls.iter().all(|call| is_built_call(stack, call))
-}
-
-fn is_built_call(stack: &StackSetup, call: &Call) -> bool
-    ensures { result ≡ form.is_built_call (form.head_of stack.now) call.now }
-{
-    is_asked_call(stack, call) && is_built_change(&call.kind)
-}
-
-fn is_built_change(kind: &CallKind) -> bool
-    ensures { result ≡ form.is_built_change kind.now }
-{
-    match kind {
-        CallKind::Insert { kind, .. } | CallKind::Replace { kind, .. } => is_built_kind(*kind),
-        _ => true,
-    }
+    calls.iter().all(|call| is_asked_call(stack, call))
 }
 
 fn is_asked_call(stack: &StackSetup, call: &Call) -> bool

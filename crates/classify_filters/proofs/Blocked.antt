@@ -21,7 +21,7 @@ use Rattle.driver_calls.specs.Filters.HandlesLent.{leaves, drops as drops_lent}
 use Rattle.driver_calls.specs.declared.fates.LentFate.{LentFate}
 use Rattle.driver_calls.specs.declared.fates.LentFate.TheVariants as fate
 use Rattle.frame_filters.proofs.Passing.{same_itself}
-use Rattle.own_filter.specs.Blocking.{is_drop, is_only_drop, is_blocking, carries, blocked, lent}
+use Rattle.classify_filters.specs.Blocking.{is_drop, is_only_drop, is_blocking, carries, blocked, lent}
 
 -- the rule
 abbrev pub drop_rule : ℕ → Rule

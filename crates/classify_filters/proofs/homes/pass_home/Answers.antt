@@ -1,6 +1,6 @@
 use Rattle.std.proofs.Common.{◌≡◌, [], refl, rules}
 use Rattle.frame_filters.proofs.Taken.{homes_alone, none_kept}
-use Rattle.own_filter.proofs.filter.pass_home.Goals as goal
+use Rattle.classify_filters.proofs.homes.pass_home.Goals as goal
 
 pub returns-then-eq : goal.returns-then-eq
 returns-then-eq c =
