@@ -16,7 +16,7 @@ use Rattle.promise_rules.specs.Own.{ending_of}
 use Rattle.driver_views.specs.States.{IsRisen}
 use Rattle.book_lemmas.specs.Views.{BookView}
 use Rattle.book_runs.specs.Adds.{AddsTurns, IsCall, OpensTo, EndsTo}
-use Rattle.book_runs.specs.Runs.{IsBetween, IsInPhase}
+pub use Rattle.book_runs.specs.Runs.{IsBetween, IsInPhase, is_fine}
 
 -- an event that a run can ask: a send, an indication, frames that are lent, a list that a protocol gives back, a cancel, a
 -- status, an OID request, a transmit, a pump or a drain, a step of a pause or of a restart, or a change of the filters

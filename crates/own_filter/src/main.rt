@@ -16,10 +16,9 @@ use driver_calls::{
     FilterCalls, FilterDriver, MiniportCalls, MiniportDriver, ProtocolCalls, ProtocolDriver,
 };
 use ndis_base::OutOfMemory;
-use ndis_cli::{Status, ndis_serial};
 use outside_io::{MemorySource, Sink, StdSink};
 use ring_adapters::LoopAdapter;
-use sample_parts::{rested_filters, rested_miniports, rested_protocols};
+use sample_parts::{Status, ndis_serial, rested_filters, rested_miniports, rested_protocols};
 use std::alloc::Global;
 use std::sync::Arc;
 use std::{fs, io};

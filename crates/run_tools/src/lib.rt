@@ -5,10 +5,9 @@
 use book_opening::StackDrivers;
 use driver_calls::{FilterDriver, MiniportDriver, ProtocolDriver};
 use ndis_base::OutOfMemory;
-use ndis_cli::{Status, ndis_serial};
 use outside_io::{MemorySink, MemorySource};
-use sample_parts::call_over;
-pub use sample_parts::{ALL_DRIVERS, Drivers};
+use sample_parts::{call_over, ndis_serial};
+pub use sample_parts::{ALL_DRIVERS, Drivers, Status};
 use std::alloc::Global;
 
 /// The words as they come from a command line.

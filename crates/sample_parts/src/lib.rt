@@ -14,7 +14,7 @@ use driver_calls::{
 };
 use frame_filters::{CountFilter, HoldFilter, PassFilter};
 use ndis_base::OutOfMemory;
-use ndis_cli::{Status, ndis_serial};
+pub use ndis_cli::{Status, ndis_serial};
 use outside_io::{Sink, Source};
 use ring_adapters::{LoopAdapter, RingAdapter};
 use rule_filters::{RuleFilter, TagFilter};

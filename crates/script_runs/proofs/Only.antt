@@ -19,7 +19,7 @@ use Rattle.work_laws.specs.Bounds.{is_take}
 use Rattle.book_lemmas.specs.Views.{BookView}
 use Rattle.book_parts.proofs.Ended.{idle_state}
 use Rattle.book_opening.specs.Opened.{IsOpenedBook}
-use Rattle.book_runs.specs.Runs.{IsInPhase, is_fine}
+use Rattle.book_scripts.specs.Scripts.{IsInPhase, is_fine}
 use Rattle.lane_orders.specs.Orders.{is_below}
 use Rattle.book_scripts.specs.Scripts.{is_asked_call}
 use Rattle.script_runs.specs.Built as form

@@ -14,7 +14,7 @@ use Rattle.script_types.specs.declared.Script.{Script}
 use Rattle.script_types.specs.declared.StackSetup.{StackSetup}
 use Rattle.script_types.specs.declared.Call.{Call}
 use Rattle.promise_rules.specs.Followed.{IsFollowed, IsOpenedAndEnded}
-use Rattle.book_runs.specs.Runs.{is_fine}
+use Rattle.book_scripts.specs.Scripts.{is_fine}
 use Rattle.lane_orders.specs.Orders.{is_below, ordered}
 use Rattle.book_scripts.specs.Laws.{MeetsLaws}
 use Rattle.book_scripts.specs.Orders.{CallsInOrder}

@@ -5,8 +5,7 @@ ghost use Rattle.stack_rules.specs.Conditions.{is_between, is_cancel, is_identif
 ghost use Rattle.journal_types.specs.declared.StackHead.{StackHead};
 ghost use Rattle.script_events.specs.Events.{event_of};
 ghost use Rattle.lane_orders.specs.Orders.{is_below};
-ghost use Rattle.book_runs.specs.Runs.{is_fine};
-ghost use Rattle.book_scripts.specs.Scripts.{is_asked_event, is_asked_call};
+ghost use Rattle.book_scripts.specs.Scripts.{is_asked_call, is_asked_event, is_fine};
 ghost use Rattle.script_runs.specs.Built as form;
 
 use journal_types::{BindingSetups, Setup, StackHead, UpperLinks};

@@ -1,7 +1,7 @@
 //! How what is written compares with a report.
 use ndis_base::OutOfMemory;
-use ndis_cli::Status;
 use outside_io::MemorySink;
+use run_tools::Status;
 use std::alloc::Global;
 
 /// The bytes that a report has at most.

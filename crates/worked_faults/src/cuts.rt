@@ -1,8 +1,7 @@
 //! The script cut after each of its bytes.
 use crate::compare::wide_sink;
 use ndis_base::OutOfMemory;
-use ndis_cli::Status;
-use run_tools::{ALL_DRIVERS, replay};
+use run_tools::{ALL_DRIVERS, Status, replay};
 use script_types::{ScriptCause, ScriptPlace};
 use std::alloc::Global;
 

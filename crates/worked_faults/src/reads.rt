@@ -1,9 +1,8 @@
 //! Sources of which one read fails.
 use crate::compare::{line_against, wide_sink};
 use ndis_base::OutOfMemory;
-use ndis_cli::Status;
 use outside_io::MemorySource;
-use run_tools::{ALL_DRIVERS, run_over};
+use run_tools::{ALL_DRIVERS, Status, run_over};
 use std::alloc::Global;
 
 /// More reads than a call makes here.

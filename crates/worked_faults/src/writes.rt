@@ -1,9 +1,8 @@
 //! Sinks of which one write fails, and sinks that are too small.
 use crate::compare::{ROOM, line_against};
 use ndis_base::OutOfMemory;
-use ndis_cli::Status;
 use outside_io::MemorySink;
-use run_tools::{ALL_DRIVERS, replay};
+use run_tools::{ALL_DRIVERS, Status, replay};
 use std::alloc::Global;
 
 /// No report here takes so many writes.

@@ -4,9 +4,8 @@
 #![tactic(auto)]
 
 use ndis_base::OutOfMemory;
-use ndis_cli::Status;
 use outside_io::{MemorySink, MemorySource};
-use run_tools::{ALL_DRIVERS, replay, replay_in_order, replay_twice, run_without_parts};
+use run_tools::{ALL_DRIVERS, Status, replay, replay_in_order, replay_twice, run_without_parts};
 use std::alloc::Global;
 use std::{fs, io};
 
