@@ -1,6 +1,7 @@
 pub mod Whole
 pub mod Followed
 pub mod Ordered
+pub mod Asked
 pub mod Laws
 pub mod Served
 pub mod Seats

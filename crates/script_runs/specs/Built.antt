@@ -18,6 +18,7 @@ use Rattle.book_scripts.specs.Scripts.{is_fine}
 use Rattle.lane_orders.specs.Orders.{is_below, ordered}
 use Rattle.book_scripts.specs.Laws.{MeetsLaws}
 use Rattle.book_scripts.specs.Orders.{CallsInOrder}
+use Rattle.book_scripts.specs.Asked.{PausesAreAsked}
 use Rattle.book_scripts.specs.Scripts.{is_asked_call}
 
 -- the head of the journal of a script's only stack
@@ -49,8 +50,9 @@ abbrev pub is_built : Script → Bool
 is_built s = list_all (is_below s.lanes) s.calls && are_built s.stacks s.calls
 
 -- the journal of a run in an order of lanes: of the script's stack, and sound; it ends Halted, and meets the laws;
--- each lane's calls stand there once and in order, each with its tail, between the opening and the ending; and all
--- calls stand in the order that is asked for, each together with its tail
+-- each lane's calls stand there once and in order, each with its tail, between the opening and the ending; all calls
+-- stand in the order that is asked for, each together with its tail; and no pause begins but by a call that asks for
+-- it, or in the ending
 pub record IsRun (script : Script) (order : List ℕ) (head : StackHead) (turns : List Turn) : Type 0 where
   pub stack : StackSetup
   pub only : script.stacks ≡ stack ∷ []
@@ -60,3 +62,4 @@ pub record IsRun (script : Script) (order : List ℕ) (head : StackHead) (turns 
   pub followed : (lane : LaneNo) → IsFollowed script.stacks lane script.calls (turns ∷ [])
   pub ended : IsOpenedAndEnded head stack.filters turns
   pub in_order : CallsInOrder script.stacks head stack.filters (ordered script.lanes order script.calls) turns
+  pub pauses_asked : PausesAreAsked script.calls ended.last turns
