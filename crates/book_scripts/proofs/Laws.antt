@@ -1,5 +1,5 @@
 -- The laws at the journal of a whole run.
-use Rattle.std.proofs.Common.{◌≡◌, List, ap, sym, subst, ◌∙◌}
+use Rattle.std.proofs.Common.{◌≡◌, ◌⊎◌, inl, inr, List, ap, sym, subst, ◌∙◌}
 use Rattle.ndis_base.specs.declared.Phase.TheVariants as phase
 use Rattle.journal_types.specs.declared.StackHead.{StackHead}
 use Rattle.journal_types.specs.declared.Turn.{Turn}
@@ -9,7 +9,8 @@ use Rattle.home_laws.specs.Rows.{rows_of}
 use Rattle.home_laws.proofs.Homes.{home_once, home_at_owner, shows_issued}
 use Rattle.home_laws.proofs.Events.{journal_fits}
 use Rattle.home_laws.proofs.Standing.{sound_front}
-use Rattle.pause_laws.proofs.Turns.{holds_nothing, none_while_halted}
+use Rattle.pause_laws.proofs.Turns.{holds_nothing, none_while_paused, none_while_halted}
+use Rattle.ended_laws.specs.Ended.{EachIsHome}
 use Rattle.ended_laws.proofs.Ended.{each_is_home}
 use Rattle.configuration_laws.proofs.Chain.{each_has_one_configuration}
 use Rattle.fate_laws.proofs.Both.{all_meet_their_fates}
@@ -23,12 +24,18 @@ use Rattle.book_runs.specs.Runs.{IsBetween}
 use Rattle.book_scripts.specs.Laws.{MeetsLaws}
 use Rattle.book_scripts.specs.Scripts.{RunsWhole}
 
+-- while a stack is Paused or Halted, each list that was issued is home
+home_in_quiet : (head : StackHead) (turns : List Turn) → Sound head turns → ((seen head turns).phase ≡ phase.Paused) ⊎ ((seen head turns).phase ≡ phase.Halted) → EachIsHome (rows_of turns)
+home_in_quiet head turns s (inl paused) = each_is_home head turns s (none_while_paused head turns s paused)
+home_in_quiet head turns s (inr halted) = each_is_home head turns s (none_while_halted head turns s halted)
+
 meets_laws : (head : StackHead) (turns : List Turn) → Sound head turns → (seen head turns).phase ≡ phase.Halted → MeetsLaws head turns
 meets_laws head turns s at = record {
   halted = at;
   once = home_once (rows_of turns) (journal_fits head turns s).fit;
   at_owner = home_at_owner (rows_of turns) (journal_fits head turns s).fit;
   home = each_is_home head turns s (none_while_halted head turns s at);
+  home_when_quiet = λ before later split quiet. home_in_quiet head before (sound_front head before later (subst (Sound head) split s)) quiet;
   shown = shows_issued (rows_of turns) (journal_fits head turns s).fit;
   empty = λ before later split. holds_nothing head before (sound_front head before later (subst (Sound head) split s));
   configuration = each_has_one_configuration head turns s;
