@@ -25,9 +25,10 @@ use Rattle.home_laws.proofs.Standing.{lists_stand, sound_front}
 use Rattle.pause_laws.proofs.Keepers.{kept_is}
 use Rattle.state_laws.specs.Shape.{IsDistinct, IsShaped}
 use Rattle.state_laws.proofs.Events.{at_phase, shaped_journal}
-use Rattle.cancel_laws.specs.Cancelled.{IsLive, IsCancelled, as_aborted, goes_to, is_turn_back, turns_back, IsTurnedBack, IsOneCancelled, Cancels, EachCancels}
+use Rattle.cancel_laws.specs.Cancelled.{IsLive, IsCancelled, as_aborted, goes_to, is_turn_back, turns_back, IsTurnedBack, IsOneCancelled, Cancels, EachCancels, OnlyCancelsAbort}
 use Rattle.cancel_laws.proofs.Within.{Within, HasPart, within-from, within-map, mapped, within-flat_map, flat_mapped, part_of}
 use Rattle.cancel_laws.proofs.Works.{itself, queues_are, queues_have, AreDistinct, queues_distinct, IsKept, cancelled_kept, cancelled_down, cancelled_is, cancelled_has}
+use Rattle.cancel_laws.proofs.Others.{abort_cancels}
 use Rattle.cancel_laws.proofs.Jobs.{Job, job, job_rows, rows_for, jobs_at, jobs_of, rows_are, length_jobs, count_rows, count_back, AreApart, count_one, apart_append, others_stay, each_goes, only_things}
 
 distinct_of : (net : Net) (s : IsShaped net) → IsDistinct net.modules.order
@@ -200,3 +201,9 @@ pub each_cancels : EachCancels
 each_cancels head before later turn id s e =
     let front : Sound head before = sound_front head before (turn ∷ later) s in
     cancels (seen head before) id turn (lists_stand head before front).numbered.apart (distinct_of (seen head before) (shaped_journal head before front)) (next_at (start head) before turn later s) e
+
+pub only_cancels_abort : OnlyCancelsAbort
+only_cancels_abort head before later turn list m s here =
+    let n : Next (seen head before) turn = next_at (start head) before turn later s in
+    let is = abort_cancels (seen head before) turn.event n.choice list m (subst (λ rows. Contains rows (row.TurnBack list m Aborted)) n.rows here) in
+    record { id = is.0; asked = is.1; cancelled = (each_cancels head before later turn is.0 s is.1).only list m Aborted here }

@@ -103,3 +103,15 @@ abbrev pub EachCancels : Type 0
 EachCancels =
     (head : StackHead) (before later : List Turn) (turn : Turn) (id : ℕ) → Sound head (before ++ turn ∷ later) →
     turn.event ≡ event.Cancel id → Cancels (seen head before) id turn
+
+-- the turn is that of a cancel, and the list of this number is one of those that are cancelled
+pub record IsAborted (net : Net) (turn : Turn) (list : ListNo) (m : ModuleId) : Type 0 where
+  pub id : ℕ
+  pub asked : turn.event ≡ event.Cancel id
+  pub cancelled : IsOneCancelled net id list m Aborted
+
+-- In a sound journal nothing but a cancel turns a list back as aborted.
+abbrev pub OnlyCancelsAbort : Type 0
+OnlyCancelsAbort =
+    (head : StackHead) (before later : List Turn) (turn : Turn) (list : ListNo) (m : ModuleId) → Sound head (before ++ turn ∷ later) →
+    Contains turn.rows (row.TurnBack list m Aborted) → IsAborted (seen head before) turn list m
