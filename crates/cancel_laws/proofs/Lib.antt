@@ -1,0 +1,4 @@
+pub mod Within
+pub mod Works
+pub mod Jobs
+pub mod Cancels
