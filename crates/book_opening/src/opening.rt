@@ -16,6 +16,7 @@ use journal_types::StackHead;
 use ndis_base::{OutOfMemory, ProtocolKind};
 use std::alloc::{AllocError, Global};
 use std::mem;
+use thiserror::Error;
 
 const MAX_FRAME: usize = 1518;
 
@@ -30,9 +31,11 @@ pub struct StackDrivers<M, P, F> {
 
 /// Why a stack was not opened: its head names more miniports or protocols of a kind than were handed in,
 /// or memory ran out.
-#[derive(Clone, Copy, PartialEq, Eq)]
+#[derive(Clone, Copy, Debug, PartialEq, Eq, Error)]
 pub enum OpenFault {
+    #[error("too few drivers")]
     NoParts,
+    #[error("out of memory")]
     Memory,
 }
 

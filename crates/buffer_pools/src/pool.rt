@@ -13,9 +13,11 @@ use ndis_base::{Frame, OutOfMemory};
 use slab::Slab;
 use std::alloc::Global;
 use std::marker::Model;
+use thiserror::Error;
 
 /// All lists of the pool are live.
-#[derive(Clone, Copy, PartialEq, Eq)]
+#[derive(Clone, Copy, Debug, PartialEq, Eq, Error)]
+#[error("all lists of the pool are live")]
 pub struct NoList;
 
 /// A pool of a fixed number of lists, each with room for eight frames of a fixed number of bytes.

@@ -5,10 +5,12 @@ ghost use Rattle.hand_lemmas.specs.Frames.{AreSized};
 ghost use Rattle.frame_programs.specs.Judged.{Judges, both};
 ghost use Rattle.frame_programs.specs.Spaces.{HasRoom, written};
 
-use crate::spares::LONGEST;
 use buffer_pools::BufferList;
 use frame_rules::{NetSpace, Verdict, apply_into};
 use program_types::Program;
+
+/// The bytes that a frame has at most: an Ethernet frame with one VLAN tag (IEEE 802.3 and 802.1Q).
+pub(crate) const LONGEST: usize = 1518;
 
 fn both(before: Verdict, next: Verdict) -> Verdict
     ensures { result ≡ both before next }

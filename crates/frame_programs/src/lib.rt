@@ -4,7 +4,6 @@
 pub mod addresses;
 pub mod judging;
 pub mod made;
-pub mod spares;
 pub mod wrapping;
 
 pub use crate::made::MadeFrames;

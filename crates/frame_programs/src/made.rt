@@ -7,8 +7,7 @@ ghost use Rattle.frame_programs.specs.Judged.{Leaves};
 ghost use Rattle.frame_programs.specs.Spaces.{HasRoom};
 
 use crate::addresses::tell_addresses;
-use crate::judging::judge;
-use crate::spares::{LONGEST, SpareBytes};
+use crate::judging::{LONGEST, judge};
 use crate::wrapping::wrap;
 use buffer_pools::BufferList;
 use frame_rules::{NetSpace, Verdict};
@@ -26,7 +25,6 @@ const FRAMES: usize = 8;
 pub struct MadeFrames {
     alloc: Global,
     spaces: Vec<NetSpace>,
-    spares: Vec<SpareBytes>,
     made: Vec<Frame>,
     room: usize,
 }
@@ -54,15 +52,6 @@ fn fill_spaces(alloc: Global, spaces: &mut Vec<NetSpace>) -> Result<(), OutOfMem
     Ok(())
 }
 
-fn fill_spares(alloc: Global, spares: &mut Vec<SpareBytes>) -> Result<(), OutOfMemory>
-    ensures { OnOk result (8 ≤ vec_len spares.new) }
-{
-    while spares.len() < FRAMES {
-        spares.push(SpareBytes::make(alloc)?)?;
-    }
-    Ok(())
-}
-
 impl MadeFrames {
     /// No frames, and no room for those of a list. It takes no memory.
     pub fn empty(alloc: Global) -> MadeFrames
@@ -71,7 +60,6 @@ impl MadeFrames {
         MadeFrames {
             alloc,
             spaces: Vec::new(alloc),
-            spares: Vec::new(alloc),
             made: Vec::new(alloc),
             room: 0,
         }
@@ -85,7 +73,6 @@ impl MadeFrames {
             self.made.clear();
             self.made.reserve(FRAMES)?;
             fill_spaces(self.alloc, &mut self.spaces)?;
-            fill_spares(self.alloc, &mut self.spares)?;
             self.room = 1;
         }
         Ok(())
@@ -106,12 +93,7 @@ impl MadeFrames {
                 tell_addresses(program.rules());
                 self.made.clear();
                 self.room = 0;
-                wrap(
-                    list.buffers(),
-                    &self.spaces,
-                    &mut self.spares,
-                    &mut self.made,
-                );
+                wrap(list.buffers(), &mut self.spaces, &mut self.made);
                 Verdict::Changed
             }
         }

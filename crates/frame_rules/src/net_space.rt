@@ -2,7 +2,7 @@
 ghost use Rattle.std.specs.Prelude.{◌≡◌, ◌+◌, ◌<◌, ◌≤◌, ◌++◌, [], IfOk, length, take, drop, slice_set, insert, remove};
 ghost use Rattle.program_types.specs.Apply.{pushed, popped};
 
-use ndis_base::OutOfMemory;
+use ndis_base::{Frame, OutOfMemory};
 use std::alloc::Global;
 use std::marker::Model;
 
@@ -37,6 +37,13 @@ impl NetSpace {
         ensures { result.now ≡ self.now.bytes }
     {
         self.bytes.as_slice()
+    }
+
+    /// The frame of the bytes up to the length, which it is without a copy.
+    pub fn into_frame(self) -> Frame
+        ensures { result ≡ self.bytes }
+    {
+        Frame::of(self.bytes)
     }
 
     /// Holds these bytes alone.

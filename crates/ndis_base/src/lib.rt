@@ -15,6 +15,7 @@ pub use crate::names::{
     protocol_kind_of_name, state_of_name, status_name_of_name,
 };
 use std::alloc::{AllocError, AllocFailed};
+use thiserror::Error;
 
 /// A module of a stack: its one miniport, a filter module by its number (from 1, in order of
 /// attachment and never used again), or a protocol binding by its number (from 0).
@@ -187,7 +188,8 @@ pub enum Origin {
 }
 
 /// Memory ran out.
-#[derive(Clone, Copy, Debug, PartialEq, Eq)]
+#[derive(Clone, Copy, Debug, PartialEq, Eq, Error)]
+#[error("out of memory")]
 pub struct OutOfMemory;
 
 impl From<AllocError> for OutOfMemory {

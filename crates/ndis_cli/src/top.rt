@@ -21,29 +21,37 @@ use script_file::read_script;
 use script_runs::{RunFault, is_built, run_script};
 use script_types::{Script, ScriptCause, ScriptFault, ScriptPlace};
 use std::alloc::Global;
+use thiserror::Error;
 
 /// The most bytes that a script has.
 pub const MAX_SCRIPT: usize = 4_194_304;
 
 /// How a call ended.
-#[derive(Clone, Copy, Debug, PartialEq, Eq)]
+#[derive(Clone, Copy, Debug, PartialEq, Eq, Error)]
 pub enum Status {
     /// All was read, run and written.
+    #[error("done")]
     Done,
     /// The words are no form of the command. Nothing was read or written.
+    #[error("usage: ndis replay [--order L,L]")]
     Usage,
     /// The bytes are no script, or one that can't be run yet. Nothing was written.
+    #[error("bad script at {place}: {cause}")]
     BadScript {
         place: ScriptPlace,
         cause: ScriptCause,
     },
     /// A read failed.
+    #[error("read fault")]
     ReadFault,
     /// A write failed. What was written is a prefix of the report.
+    #[error("write fault")]
     WriteFault,
     /// Memory ran out. Drivers that were moved into the stack may be gone.
+    #[error("out of memory")]
     Memory,
     /// There are too few drivers of the kinds that this stack names, the first such.
+    #[error("no parts for stack {stack}")]
     NoParts {
         stack: usize,
     },

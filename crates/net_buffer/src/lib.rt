@@ -8,13 +8,16 @@ ghost use Rattle.net_buffer.specs.Buffer.{data_of, written, Places};
 use ndis_base::OutOfMemory;
 use std::alloc::Global;
 use std::marker::Model;
+use thiserror::Error;
 
 /// Before the data there is too little room to retreat.
-#[derive(Clone, Copy, Debug, PartialEq, Eq)]
+#[derive(Clone, Copy, Debug, PartialEq, Eq, Error)]
+#[error("too little room before the data")]
 pub struct NoRoom;
 
 /// The data are too short to advance.
-#[derive(Clone, Copy, Debug, PartialEq, Eq)]
+#[derive(Clone, Copy, Debug, PartialEq, Eq, Error)]
+#[error("the data are too short")]
 pub struct TooFar;
 
 /// A buffer, seen as the bytes of its block, the offset of its data and their length.

@@ -3,9 +3,11 @@ ghost use Rattle.std.specs.Prelude.{List, Option, ◌≡◌, ℕ, ◌+◌, ◌�
 ghost use Rattle.outside_io.specs.Edges.{Rose, before, Takes, TakesMore};
 
 use std::alloc::{AllocError, Global};
+use thiserror::Error;
 
 /// A read or a write failed.
-#[derive(Clone, Copy, Debug, PartialEq, Eq)]
+#[derive(Clone, Copy, Debug, PartialEq, Eq, Error)]
+#[error("a read or a write failed")]
 pub struct Failed;
 
 /// What bytes are read from. `left` is what it has left, where it tells that, and `faults` a count
@@ -28,13 +30,16 @@ pub trait Source {
 }
 
 /// Why a source wasn't read to its end.
-#[derive(Clone, Copy, Debug, PartialEq, Eq)]
+#[derive(Clone, Copy, Debug, PartialEq, Eq, Error)]
 pub enum ReadRefusal {
     /// A read failed.
+    #[error("read fault")]
     Failed,
     /// More bytes were read than the limit.
+    #[error("too many bytes")]
     TooLong,
     /// Memory ran out.
+    #[error("out of memory")]
     Memory,
 }
 

@@ -11,14 +11,18 @@ use json_forms::{is_object_of, only_member};
 use program_types::{Action, Program, Rule, Test};
 use serde_json::Value;
 use std::alloc::{AllocFailed, Global};
+use thiserror::Error;
 
 /// Why a value is no program.
-#[derive(Clone, Copy)]
+#[derive(Clone, Copy, Debug, Error)]
 pub enum RuleFault {
     /// The first place in the list that isn't a rule, from 0; 0 too where the value is no list.
+    #[error("bad rule {0}")]
     BadRule(usize),
     /// More than 16 rules.
+    #[error("more than 16 rules")]
     TooMany,
+    #[error("out of memory")]
     Memory,
 }
 

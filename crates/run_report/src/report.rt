@@ -10,6 +10,7 @@ use ndis_base::OutOfMemory;
 use ndis_journal::{Journal, Lines, Page};
 use outside_io::{Failed, Sink, write_whole};
 use std::alloc::Global;
+use thiserror::Error;
 
 /// The room of the page, in bytes.
 pub const PAGE: usize = 65_536;
@@ -18,11 +19,13 @@ pub const PAGE: usize = 65_536;
 const FULL: usize = 32_768;
 
 /// Why a report wasn't written whole.
-#[derive(Clone, Copy, PartialEq, Eq)]
+#[derive(Clone, Copy, Debug, PartialEq, Eq, Error)]
 pub enum ReportFault {
     /// A write failed.
+    #[error("write fault")]
     Failed,
     /// Memory ran out.
+    #[error("out of memory")]
     Memory,
 }
 

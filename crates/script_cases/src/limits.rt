@@ -1,6 +1,5 @@
 //! Scripts that differ in one number, at both ends of its range and one past each, and scripts with
 //! frames and texts of several lengths, and what each reading answers.
-use crate::faults::name_of_cause;
 use crate::table::{LIMITS, Limit, SEND};
 use script_file::{ScriptFault, read_script};
 use std::alloc::{AllocError, Global};
@@ -16,23 +15,19 @@ const EDGES: [&str; 6] = [
     "\"\\ud800\"",
 ];
 
-fn name_of_answer(alloc: Global, text: &str) -> &'static str {
+fn name_of_answer(alloc: Global, text: &str) -> std::result::Result<String, AllocError> {
     match read_script(alloc, text.as_bytes()) {
-        Ok(_) => "fine",
-        Err(ScriptFault::Memory) => "out of memory",
-        Err(ScriptFault::Bad { cause, .. }) => name_of_cause(cause),
+        Ok(_) => format!(in alloc; "fine"),
+        Err(ScriptFault::Bad { cause, .. }) => format!(in alloc; "{cause}"),
+        Err(fault) => format!(in alloc; "{fault}"),
     }
 }
 
-fn answer_at(
-    alloc: Global,
-    limit: &Limit,
-    number: i64,
-) -> std::result::Result<&'static str, AllocError> {
+fn answer_at(alloc: Global, limit: &Limit, number: i64) -> std::result::Result<String, AllocError> {
     let before = limit.before;
     let after = limit.after;
     let text = format!(in alloc; "{before}{number}{after}")?;
-    Ok(name_of_answer(alloc, text.as_str()))
+    name_of_answer(alloc, text.as_str())
 }
 
 fn line_of(alloc: Global, limit: &Limit) -> std::result::Result<String, AllocError> {
@@ -54,42 +49,42 @@ fn text_of_frame(alloc: Global, bytes: usize) -> std::result::Result<String, All
     format!(in alloc; "{before}\"cancel\":1,\"frames\":[\"{digits}\"]}}]}}")
 }
 
-fn frame_answer(alloc: Global, bytes: usize) -> std::result::Result<&'static str, AllocError> {
+fn frame_answer(alloc: Global, bytes: usize) -> std::result::Result<String, AllocError> {
     let text = text_of_frame(alloc, bytes)?;
-    Ok(name_of_answer(alloc, text.as_str()))
+    name_of_answer(alloc, text.as_str())
 }
 
 // A script with spaces behind it, of so many bytes in all.
-fn length_answer(alloc: Global, bytes: usize) -> std::result::Result<&'static str, AllocError> {
+fn length_answer(alloc: Global, bytes: usize) -> std::result::Result<String, AllocError> {
     let mut text = text_of_frame(alloc, 14)?;
     for _ in text.len()..bytes {
         text.push_str(" ")?;
     }
-    Ok(name_of_answer(alloc, text.as_str()))
+    name_of_answer(alloc, text.as_str())
 }
 
 // A script with this in place of its version.
-fn edge_answer(alloc: Global, edge: &str) -> std::result::Result<&'static str, AllocError> {
+fn edge_answer(alloc: Global, edge: &str) -> std::result::Result<String, AllocError> {
     let before = LIMITS[0].before;
     let after = LIMITS[0].after;
     let text = format!(in alloc; "{before}{edge}{after}")?;
-    Ok(name_of_answer(alloc, text.as_str()))
+    name_of_answer(alloc, text.as_str())
 }
 
 // A script with this in front of it.
-fn answer_behind(alloc: Global, front: &str) -> std::result::Result<&'static str, AllocError> {
+fn answer_behind(alloc: Global, front: &str) -> std::result::Result<String, AllocError> {
     let script = text_of_frame(alloc, 14)?;
     let text = format!(in alloc; "{front}{script}")?;
-    Ok(name_of_answer(alloc, text.as_str()))
+    name_of_answer(alloc, text.as_str())
 }
 
 // A script without its last byte.
-fn cut_answer(alloc: Global) -> std::result::Result<&'static str, AllocError> {
+fn cut_answer(alloc: Global) -> std::result::Result<String, AllocError> {
     let mut text = text_of_frame(alloc, 14)?;
     if text.pop().is_none() {
-        return Ok("no text");
+        return format!(in alloc; "no text");
     }
-    Ok(name_of_answer(alloc, text.as_str()))
+    name_of_answer(alloc, text.as_str())
 }
 
 /// Prints what each reading answers.
@@ -109,7 +104,7 @@ pub fn tell_limits(rt: &HostRuntime) -> anyhow::Result<()> {
     }
     let answer = cut_answer(alloc)?;
     println!(rt; "text without its last byte: {answer}")?;
-    let answer = name_of_answer(alloc, "");
+    let answer = name_of_answer(alloc, "")?;
     println!(rt; "no text: {answer}")?;
     for edge in EDGES {
         let answer = edge_answer(alloc, edge)?;

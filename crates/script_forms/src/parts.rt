@@ -16,11 +16,14 @@ use ndis_base::{Frame, OidValue};
 use script_types::ScriptCause;
 use serde_json::Value;
 use std::alloc::{AllocError, AllocFailed, Global};
+use thiserror::Error;
 
 /// Why a part of a script was not read.
-#[derive(Clone, Copy, Debug, PartialEq, Eq)]
+#[derive(Clone, Copy, Debug, PartialEq, Eq, Error)]
 pub enum Trouble {
+    #[error("{0}")]
     Bad(ScriptCause),
+    #[error("out of memory")]
     Memory,
 }
 

@@ -12,13 +12,17 @@ use flat_journal::FlatJournal;
 use ndis_base::OutOfMemory;
 use script_types::Script;
 use std::alloc::Global;
+use thiserror::Error;
 
 /// Why a script was not run: there are too few drivers of the kinds that it names, or memory ran out,
 /// before the drivers were moved into the stack, or after, when those that were moved are gone.
-#[derive(Clone, Copy, Debug, PartialEq, Eq)]
+#[derive(Clone, Copy, Debug, PartialEq, Eq, Error)]
 pub enum RunFault {
+    #[error("too few drivers")]
     NoParts,
+    #[error("out of memory")]
     Memory,
+    #[error("out of memory, and the drivers of the stack are lost")]
     Lost,
 }
 

@@ -5,7 +5,9 @@ ghost use Rattle.std.specs.Prelude.{◌≡◌};
 
 use journal_types::{BindingSetups, Frames, PortSetup, Setup, Way};
 use ndis_base::{FilterKind, LaneNo, ListNo, MiniportKind, OidKind, OidValue, StatusName};
+use std::fmt;
 use std::marker::Model;
+use thiserror::Error;
 
 /// A script: its version (1), how many lanes make its calls (1 to 8), its stacks (1 to 4) and its
 /// calls (0 to 16,384).
@@ -206,42 +208,65 @@ pub enum ScriptPlace {
     Call(usize),
 }
 
+impl fmt::Display for ScriptPlace {
+    fn fmt<W: fmt::Write>(&self, f: &mut fmt::Formatter<W>) -> fmt::Result {
+        match self {
+            ScriptPlace::Whole => write!(f, "whole"),
+            ScriptPlace::Stack(stack) => write!(f, "stack {stack}"),
+            ScriptPlace::Call(call) => write!(f, "call {call}"),
+        }
+    }
+}
+
 /// What is wrong with a script.
-#[derive(Clone, Copy, Debug, PartialEq, Eq)]
+#[derive(Clone, Copy, Debug, PartialEq, Eq, Error)]
 pub enum ScriptCause {
     /// It has more than 4,194,304 bytes.
+    #[error("TooLong")]
     TooLong,
     /// It is no JSON value.
+    #[error("NotJson")]
     NotJson,
     /// A member is missing, unknown or of another JSON kind, or a number is no whole number of 64
     /// bits.
+    #[error("Shape")]
     Shape,
     /// A list is longer than its limit, or shorter than 1 where 1 is least.
+    #[error("TooMany")]
     TooMany,
     /// A number, a name or handler letters aren't among the permitted ones, a text of fixed length
     /// has another length, or a lane, stack or binding doesn't exist.
+    #[error("Range")]
     Range,
     /// A hexadecimal text has an odd length or another character.
+    #[error("BadHex")]
     BadHex,
     /// A frame has fewer than 14 or more than 1,518 bytes.
+    #[error("FrameLength")]
     FrameLength,
     /// A program isn't of the form of frame programs.
+    #[error("BadRule")]
     BadRule,
     /// A virtual miniport stands on no mux binding of an earlier stack, or where an earlier one
     /// stands with the same VLAN, or a relay names a stack whose miniport isn't virtual.
+    #[error("BadLink")]
     BadLink,
     /// Two lanes pause, restart or rewire one stack.
+    #[error("TwoRewirers")]
     TwoRewirers,
     /// The script is right, but asks for what can't be run yet. Reading never answers it.
+    #[error("NotBuilt")]
     NotBuilt,
 }
 
 /// Why a script was not read.
-#[derive(Clone, Copy, Debug, PartialEq, Eq)]
+#[derive(Clone, Copy, Debug, PartialEq, Eq, Error)]
 pub enum ScriptFault {
+    #[error("bad script at {place}: {cause}")]
     Bad {
         place: ScriptPlace,
         cause: ScriptCause,
     },
+    #[error("out of memory")]
     Memory,
 }
