@@ -15,3 +15,6 @@ returns-in-Err-Failed-clause-cut g c e =
 pub returns-clause-memory : goal.returns-clause-memory
 returns-clause-memory g c e =
     inr (replayed AddsPrefix _ _ c.args.script.now c.args.order.now _ c.in-Ok.journal _ _ c.from_ref.ensures.value c.in-Ok.ensures.run c.in-Ok.ensures.back c.in-Err-Memory.ensures.prefix)
+
+pub returns-clause-given_up : goal.returns-clause-given_up
+returns-clause-given_up g c e = inr (inr (c.in-Ok.journal.turns, c.in-Ok.ensures.back))
