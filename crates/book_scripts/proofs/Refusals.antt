@@ -14,8 +14,8 @@ use Rattle.rule_basics.proofs.Counts.{count_by-cons, one_if}
 use Rattle.promise_rules.specs.Drivers.{Shelf, is_of_kind, shelf_in_turns, shelf_of}
 use Rattle.driver_views.specs.States.{FilterState, IsRisen}
 use Rattle.book_lemmas.specs.Shelves.{Balks, HasBalked, first_on_shelf}
-use Rattle.book_lemmas.specs.Stands.{IsOnShelf, IsShelved}
-use Rattle.book_lemmas.specs.Views.{BookView, HeldView, filter_at}
+use Rattle.book_lemmas.specs.Stands.{IsShelved}
+use Rattle.book_lemmas.specs.Views.{BookView, HeldView, IsOnShelf, filter_at}
 use Rattle.book_parts.specs.Events.{IsBook}
 use Rattle.rewire_work.proofs.Shelving.{find_same}
 use Rattle.book_runs.specs.Adds.{Adds, AddsThis}
@@ -142,29 +142,29 @@ record Balked (e : Event) (old new : HeldView) : Type 0 where
   balked : HasBalked kind old new
 
 balked : (e : Event) (kinds : List FilterKind) (shelf : Shelf) (place : ℕ) (old new : HeldView) → Balks e (reply.Refused refusal.AttachRefused) old new → is_asked kinds shelf place (kind_asked e) ≡ true → Balked e old new
-balked event.Initialize kinds shelf place old new b t = absurd (never t)
-balked (event.Insert kind position setup) kinds shelf place old new b t = record { kind = kind; asked = refl; balked = b }
-balked (event.Remove a) kinds shelf place old new b t = absurd (never t)
-balked (event.Replace f kind setup) kinds shelf place old new b t = record { kind = kind; asked = refl; balked = b }
-balked (event.Send a b c) kinds shelf place old new b t = absurd (never t)
-balked (event.Indicate a) kinds shelf place old new b t = absurd (never t)
-balked (event.Lend a) kinds shelf place old new b t = absurd (never t)
-balked (event.GiveBack a b) kinds shelf place old new b t = absurd (never t)
-balked (event.Cancel a) kinds shelf place old new b t = absurd (never t)
-balked (event.Ask a b c d) kinds shelf place old new w t = absurd (never t)
-balked (event.Status a) kinds shelf place old new b t = absurd (never t)
-balked event.Transmit kinds shelf place old new b t = absurd (never t)
-balked event.Pump kinds shelf place old new b t = absurd (never t)
-balked event.Drain kinds shelf place old new b t = absurd (never t)
-balked event.BeginPause kinds shelf place old new b t = absurd (never t)
-balked event.PauseNext kinds shelf place old new b t = absurd (never t)
-balked event.RestartNext kinds shelf place old new b t = absurd (never t)
-balked event.Halt kinds shelf place old new b t = absurd (never t)
-balked event.CrossTake kinds shelf place old new b t = absurd (never t)
-balked (event.CrossPut a b c d) kinds shelf place old new b t = absurd (never t)
-balked (event.CrossDone a b) kinds shelf place old new b t = absurd (never t)
-balked (event.CrossTakeUp a b) kinds shelf place old new b t = absurd (never t)
-balked (event.CrossPutUp a b c) kinds shelf place old new b t = absurd (never t)
+balked event.Initialize kinds shelf place old new did t = absurd (never t)
+balked (event.Insert kind position setup) kinds shelf place old new did t = record { kind = kind; asked = refl; balked = did }
+balked (event.Remove a) kinds shelf place old new did t = absurd (never t)
+balked (event.Replace f kind setup) kinds shelf place old new did t = record { kind = kind; asked = refl; balked = did }
+balked (event.Send a b c) kinds shelf place old new did t = absurd (never t)
+balked (event.Indicate a) kinds shelf place old new did t = absurd (never t)
+balked (event.Lend a) kinds shelf place old new did t = absurd (never t)
+balked (event.GiveBack a b) kinds shelf place old new did t = absurd (never t)
+balked (event.Cancel a) kinds shelf place old new did t = absurd (never t)
+balked (event.Ask a b c d) kinds shelf place old new did t = absurd (never t)
+balked (event.Status a) kinds shelf place old new did t = absurd (never t)
+balked event.Transmit kinds shelf place old new did t = absurd (never t)
+balked event.Pump kinds shelf place old new did t = absurd (never t)
+balked event.Drain kinds shelf place old new did t = absurd (never t)
+balked event.BeginPause kinds shelf place old new did t = absurd (never t)
+balked event.PauseNext kinds shelf place old new did t = absurd (never t)
+balked event.RestartNext kinds shelf place old new did t = absurd (never t)
+balked event.Halt kinds shelf place old new did t = absurd (never t)
+balked event.CrossTake kinds shelf place old new did t = absurd (never t)
+balked (event.CrossPut a b c d) kinds shelf place old new did t = absurd (never t)
+balked (event.CrossDone a b) kinds shelf place old new did t = absurd (never t)
+balked (event.CrossTakeUp a b) kinds shelf place old new did t = absurd (never t)
+balked (event.CrossPutUp a b c) kinds shelf place old new did t = absurd (never t)
 
 place_of_asked : (place : ℕ) (o : Option ℕ) → unwrap_or (option_map (λ p. p == place) o) false ≡ true → o ≡ Some place
 place_of_asked place None e = absurd (never e)
