@@ -3,6 +3,7 @@ pub mod Followed
 pub mod Ordered
 pub mod Asked
 pub mod Laws
+pub mod Refusals
 pub mod Served
 pub mod Seats
 pub mod Places

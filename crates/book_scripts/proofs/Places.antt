@@ -30,6 +30,7 @@ use Rattle.book_runs.specs.Runs.{IsBetween}
 use Rattle.book_scripts.specs.Scripts.{RunsWhole}
 use Rattle.book_scripts.specs.Served.{FiltersServed, served_at}
 use Rattle.book_scripts.proofs.Laws.{run_is_sound}
+use Rattle.book_scripts.proofs.Refusals.{filters_refused}
 use Rattle.book_scripts.proofs.Seats.{Sits, SitsThere, at_place, counted_seated, counted_vacant, driver_still, each_of, none_at, seated_or_vacant, sums_add, sums_alike, sums_none}
 use Rattle.book_scripts.proofs.Whole.{added_turns, turn_is}
 
@@ -164,4 +165,5 @@ run_filters_served filters calls a b none k w s = record {
       (λ f. ap (λ (n : Net). count_by (is_call_of (Filter f) what) (calls_of n w.added.more)) begun ∙ ap (λ ts. count_by (is_call_of (Filter f) what) (calls_of (start a.tray.head) ts)) (sym are) ∙ sym (each_is_served a.tray.head all sound (Filter f) what))) in
       omega (arith, counted, same);
   log = λ place. logs_stay place a b w.added.more w.added.adds;
+  refusals = λ place. filters_refused place a b b.tray.turns w.added.more none (w.turns ∙ ap (λ ts. ts ++ w.added.more) none) w.added.adds k.book s;
 }

@@ -25,6 +25,7 @@ use Rattle.book_scripts.specs.Scripts.{RunsWhole}
 use Rattle.book_scripts.specs.Served.{AreServed, DriversServed, IsServedBy}
 use Rattle.book_scripts.proofs.Followed.{runs_unless_refused}
 use Rattle.book_scripts.proofs.Laws.{run_is_sound}
+use Rattle.book_scripts.proofs.Refusals.{miniport_counted}
 use Rattle.book_scripts.proofs.Whole.{added_turns, keeps_all}
 
 flat_more : {X Y : Type 0} (f : X → List Y) (xs ys : List X) → flat_map f (xs ++ ys) ≡ flat_map f xs ++ flat_map f ys
@@ -103,6 +104,7 @@ all_served filters calls a b none k w =
           (subst (λ (n : Net). IsCounted (Binding i) n w.added.more (slice_index_or a.held.protocols i no_protocol).did (slice_index_or b.held.protocols i no_protocol).did) begun
           (counted_by (Binding i) (λ (h : HeldView). (slice_index_or h.protocols i no_protocol).did) (λ seats o n net rows d. d.protocols i) a b w.added.more w.added.adds));
       as_many = as_many_as_bindings b w.now.between ∙ ap (λ (h : StackHead). length h.bindings) w.head_is ∙ sym (as_many_as_bindings a k);
+      refusals = miniport_counted a b w.added.more w.added.adds;
     } in
     subst (λ ts. AreServed ts a.held.miniport a.held.protocols b.held.miniport b.held.protocols) (sym are) all
 

@@ -1,11 +1,12 @@
 -- What the bytes that were read say of the script.
-use Rattle.std.proofs.Common.{◌≡◌, ℕ, List, [], ◌∷◌, ◌++◌, Option, Some, None, Result, Ok, Err, true, false, refl, sym, ◌∙◌, ap, subst, arith}
+use Rattle.std.proofs.Common.{◌≡◌, ◌⊎◌, inl, inr, ℕ, List, [], ◌∷◌, ◌++◌, Option, Some, None, Result, Ok, Err, true, false, refl, sym, ◌∙◌, ap, subst, arith}
 use Rattle.std.specs.Prelude.{IfSome, IsTrue, unwrap_or}
 use Rattle.std.proofs.lemmas.List.{append-nil}
 use Rattle.outside_io.specs.Edges.{before}
 use Rattle.flat_journal.specs.Flat.{FlatView}
 use Rattle.flat_report.specs.Report.{report}
 use Rattle.script_types.specs.declared.Script.{Script}
+use Rattle.script_types.specs.declared.StackSetup.{StackSetup}
 use Rattle.script_types.specs.declared.ScriptPlace.{ScriptPlace}
 use Rattle.script_types.specs.declared.ScriptPlace.TheVariants as place
 use Rattle.script_types.specs.declared.ScriptCause.{ScriptCause}
@@ -19,7 +20,7 @@ use Rattle.script_runs.specs.Built.{is_built, IsRun}
 use Rattle.ndis_cli.specs.declared.top.Status.{Status}
 use Rattle.ndis_cli.specs.declared.top.Status.TheVariants as status
 use Rattle.book_opening.specs.Opened.{HandedView}
-use Rattle.ndis_cli.specs.Answers.{IsFaulty, no_script, not_built, IsFine, LacksFirst, LacksParts, AreBack, Replayed, Wrote, IsOf, IsDone, IsWanting, is_early, ends_reading, ends_replay}
+use Rattle.ndis_cli.specs.Answers.{IsFaulty, no_script, not_built, IsFine, LacksFirst, LacksParts, AreBack, OthersAreLeft, GivesUp, GaveUp, Replayed, Wrote, IsOf, IsDone, IsWanting, is_early, ends_reading, ends_replay}
 
 -- what was read to the end of input is all that was left
 all-read : (P : List ℕ → Type 0) (old new : Option (List ℕ)) (bytes : List ℕ) → old ≡ before bytes new → IfSome new (λ rest. rest ≡ []) → P bytes → IfSome old P
@@ -198,3 +199,12 @@ wrote How words order order' old held held' script parts parts' told same is bui
 -- what holds of the one script holds of what was read
 pub of-same : (P : Script → Type 0) (a b : Script) → a ≡ b → P a → P b
 of-same P a b e p = subst P e p
+
+-- after want of memory the parts are as they were, or a run gave drivers up
+pub gives-up : (P : Type 0) (stacks : List StackSetup) (parts parts' : List HandedView) → P ⊎ OthersAreLeft stacks parts parts' → P ⊎ GivesUp stacks parts parts'
+gives-up P stacks parts parts' (inl same) = inl same
+gives-up P stacks parts parts' (inr left) = inr (inl left)
+
+pub gave-up : (P : Type 0) (old : Option (List ℕ)) (script : Script) (parts parts' : List HandedView) → IsOf old script → is_built script ≡ true → P ⊎ GivesUp script.stacks parts parts' → P ⊎ GaveUp old parts parts'
+gave-up P old script parts parts' is built (inl same) = inl same
+gave-up P old script parts parts' is built (inr gives) = inr (record { script = script; is = is; built = built; gives_up = gives })

@@ -6,8 +6,8 @@ use Rattle.journal_types.specs.declared.Turn.{Turn}
 use Rattle.script_types.specs.declared.Script.{Script}
 use Rattle.script_types.specs.declared.StackSetup.{StackSetup}
 use Rattle.book_opening.specs.Opened.{AreIdle, HandedView}
-use Rattle.script_runs.specs.Drivers.{LacksDrivers, ComesBack}
-use Rattle.ndis_cli.specs.Answers.{LacksFirst, AreBack}
+use Rattle.script_runs.specs.Drivers.{LacksDrivers, LeavesDrivers, ComesBack}
+use Rattle.ndis_cli.specs.Answers.{LacksFirst, AreBack, OthersAreLeft}
 
 -- there is a first
 pub positive : (n : ℕ) → (n == 0) ≡ false → 0 < n
@@ -52,4 +52,16 @@ first_back f stacks turns (y ∷ xs) x x' some e back = record {
   now = f x';
   returned = refl;
   back = back;
+}
+
+-- only the others are left of the first
+pub first_left : {X : Type 0} (f : X → HandedView) (stacks : List StackSetup) (xs : List X) (x x' : X) → 0 < length xs → x ≡ slice_index_or xs 0 x → LeavesDrivers stacks (f x) (f x') → OthersAreLeft stacks (map f xs) (map f (slice_set xs 0 x'))
+first_left f stacks [] x x' some e left = absurd (omega (arith, some))
+first_left f stacks (y ∷ xs) x x' some e left = record {
+  first = f x;
+  more = map f xs;
+  handed = ap (λ z. f z ∷ map f xs) (sym e);
+  now = f x';
+  returned = refl;
+  left = left;
 }

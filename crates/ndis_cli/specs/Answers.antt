@@ -1,5 +1,5 @@
 -- What the top call answers, reads and writes.
-use Rattle.std.specs.Prelude.{◌≡◌, ℕ, true, false, Bool, List, [], ◌∷◌, Option, Some, Ok, Err, IfSome}
+use Rattle.std.specs.Prelude.{◌≡◌, ◌⊎◌, ℕ, true, false, Bool, List, [], ◌∷◌, map, Option, Some, Ok, Err, IfSome, String, string_bytes}
 use Rattle.flat_journal.specs.Flat.{FlatView}
 use Rattle.outside_io.specs.Edges.{after}
 use Rattle.flat_report.specs.Report.{report}
@@ -12,11 +12,20 @@ use Rattle.script_types.specs.declared.ScriptCause.{ScriptCause}
 use Rattle.script_types.specs.declared.ScriptCause.TheVariants as cause
 use Rattle.script_types.specs.declared.ScriptFault.TheVariants as fault
 use Rattle.script_forms.specs.Script.{Says}
-use Rattle.book_opening.specs.Opened.{HandedView}
+use Rattle.driver_views.specs.States.{MiniportState, ProtocolState, FilterState}
+use Rattle.book_opening.specs.declared.opening.StackDrivers.{StackDrivers}
+use Rattle.book_opening.specs.Opened.{HandedView, handed_of}
 use Rattle.script_runs.specs.Built.{is_built, IsRun}
-use Rattle.script_runs.specs.Drivers.{LacksDrivers, ComesBack}
+use Rattle.script_runs.specs.Drivers.{LacksDrivers, LeavesDrivers, ComesBack}
 use Rattle.ndis_cli.specs.declared.top.Status.{Status}
 use Rattle.ndis_cli.specs.declared.top.Status.TheVariants.{Done, Usage, BadScript, ReadFault, WriteFault, Memory, NoParts}
+
+-- the words by their bytes, and the parts by their drivers' states
+abbrev pub texts_of : {A : Type 0} → List (String A) → List (List ℕ)
+texts_of words = map (λ w. string_bytes w) words
+
+abbrev pub all_handed : {M P F : Type 0} → (M → MiniportState) → (P → ProtocolState) → (F → FilterState) → List (StackDrivers M P F) → List HandedView
+all_handed m p f parts = map (λ part. handed_of m p f part) parts
 
 -- the bytes are the text of this script, where they are told
 abbrev pub IsOf : Option (List ℕ) → Script → Type 0
@@ -40,6 +49,27 @@ pub record AreBack (stacks : List StackSetup) (turns : List Turn) (parts parts' 
   pub now : HandedView
   pub returned : parts' ≡ now ∷ more
   pub back : ComesBack stacks turns first now
+
+-- the drivers of the first of the parts that its stack took are gone, the others stand there, and the other parts are as
+-- they were
+pub record OthersAreLeft (stacks : List StackSetup) (parts parts' : List HandedView) : Type 0 where
+  pub first : HandedView
+  pub more : List HandedView
+  pub handed : parts ≡ first ∷ more
+  pub now : HandedView
+  pub returned : parts' ≡ now ∷ more
+  pub left : LeavesDrivers stacks first now
+
+-- memory ran out in a run, or after it, when the drivers had come back
+abbrev pub GivesUp : List StackSetup → List HandedView → List HandedView → Type 0
+GivesUp stacks parts parts' = OthersAreLeft stacks parts parts' ⊎ ((turns : List Turn) × AreBack stacks turns parts parts')
+
+-- the bytes are a script that can be run, and memory ran out then
+pub record GaveUp (left : Option (List ℕ)) (parts parts' : List HandedView) : Type 0 where
+  pub script : Script
+  pub is : IsOf left script
+  pub built : is_built script ≡ true
+  pub gives_up : GivesUp script.stacks parts parts'
 
 -- a script was run in an order of lanes over the first of the parts: its journal is of its stack, sound, and as the laws and the
 -- script ask; the stack's drivers came back, and counted and logged what is promised of that journal; and what

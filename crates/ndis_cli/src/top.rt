@@ -1,13 +1,13 @@
 //! The top call.
-ghost use Rattle.std.specs.Prelude.{◌≡◌, ◌≢◌, ◌↔◌, ◌⊎◌, ℕ, [], false, All, OnOk, IfOk, IfErr, IfSome, IsTrue, true, map, string_bytes};
+ghost use Rattle.std.specs.Prelude.{◌≡◌, ◌≢◌, ◌↔◌, ◌⊎◌, ℕ, [], false, All, OnOk, IfOk, IfErr, IfSome, IsTrue, true};
 ghost use Rattle.outside_io.specs.Edges.{Rose, AddsPrefix};
 ghost use Rattle.script_types.specs.declared.ScriptPlace.{ScriptPlace};
 ghost use Rattle.script_types.specs.declared.ScriptCause.{ScriptCause};
 ghost use Rattle.book_opening.specs.Opened.{AreIdle, handed_of};
 ghost use Rattle.script_runs.specs.Built.{is_built, IsRun};
-ghost use Rattle.script_runs.specs.Drivers.{LacksDrivers, ComesBack};
+ghost use Rattle.script_runs.specs.Drivers.{LacksDrivers, LeavesDrivers, ComesBack};
 ghost use Rattle.command_words.specs.Words as form;
-ghost use Rattle.ndis_cli.specs.Answers.{IsOf, IsFaulty, AddsAll, AreBack, Replayed, Wrote, IsFine, LacksFirst, LacksParts, is_early, ends_reading, ends_replay, IsDone, IsWanting};
+ghost use Rattle.ndis_cli.specs.Answers.{IsOf, IsFaulty, AddsAll, AreBack, OthersAreLeft, GivesUp, GaveUp, Replayed, Wrote, IsFine, LacksFirst, LacksParts, all_handed, texts_of, is_early, ends_reading, ends_replay, IsDone, IsWanting};
 
 use book_opening::StackDrivers;
 use command_words::order_of;
@@ -68,31 +68,33 @@ pub fn ndis_serial<S: Source, K: Sink, M: MiniportCalls, P: ProtocolCalls, F: Fi
     sink: &mut K,
     parts: &mut Vec<StackDrivers<M, P, F>>,
 ) -> Status
-    requires idle { All AreIdle (map (λ p. handed_of M.state P.state F.state p) parts.old.items) }
+    requires idle { All AreIdle (all_handed M.state P.state F.state parts.old.items) }
     // Usage, exactly where the words are no form; then nothing is read.
-    ensures usage { (result ≡ Status.Usage) ↔ (form.is_form (map (λ w. string_bytes w) words.now) ≡ false) }
+    ensures usage { (result ≡ Status.Usage) ↔ (form.is_form (texts_of words.now) ≡ false) }
     ensures unread { result ≡ Status.Usage → source.new ≡ source.old }
     // A script that is faulty.
     ensures bad { (at : ScriptPlace) (why : ScriptCause) → result ≡ Status.BadScript at why → IfSome (S.left source.old) (λ bytes. IsFaulty bytes at why) }
     // Drivers are wanting for the only stack of a script that can be run.
-    ensures no_parts { (k : ℕ) → result ≡ Status.NoParts k → LacksParts (S.left source.old) (map (λ p. handed_of M.state P.state F.state p) parts.old.items) k }
+    ensures no_parts { (k : ℕ) → result ≡ Status.NoParts k → LacksParts (S.left source.old) (all_handed M.state P.state F.state parts.old.items) k }
     // After a run nothing is left to be read.
     ensures read { result ≡ Status.Done → IfSome (S.left source.new) (λ rest. rest ≡ []) }
     // Faults of the outside.
     ensures read_fault { result ≡ Status.ReadFault → Rose (S.faults source.old) (S.faults source.new) }
     ensures write_fault { result ≡ Status.WriteFault → Rose (K.faults sink.old) (K.faults sink.new) }
     // The report of a run of the script, whole, or a prefix of one.
-    ensures done { result ≡ Status.Done → Wrote AddsAll (form.order_told (map (λ w. string_bytes w) words.now)) (S.left source.old) (map (λ p. handed_of M.state P.state F.state p) parts.old.items) (map (λ p. handed_of M.state P.state F.state p) parts.new.items) (K.holds sink.old) (K.holds sink.new) }
-    ensures cut { result ≡ Status.WriteFault → Wrote AddsPrefix (form.order_told (map (λ w. string_bytes w) words.now)) (S.left source.old) (map (λ p. handed_of M.state P.state F.state p) parts.old.items) (map (λ p. handed_of M.state P.state F.state p) parts.new.items) (K.holds sink.old) (K.holds sink.new) }
-    ensures memory { result ≡ Status.Memory → (K.holds sink.new ≡ K.holds sink.old) ⊎ Wrote AddsPrefix (form.order_told (map (λ w. string_bytes w) words.now)) (S.left source.old) (map (λ p. handed_of M.state P.state F.state p) parts.old.items) (map (λ p. handed_of M.state P.state F.state p) parts.new.items) (K.holds sink.old) (K.holds sink.new) }
+    ensures done { result ≡ Status.Done → Wrote AddsAll (form.order_told (texts_of words.now)) (S.left source.old) (all_handed M.state P.state F.state parts.old.items) (all_handed M.state P.state F.state parts.new.items) (K.holds sink.old) (K.holds sink.new) }
+    ensures cut { result ≡ Status.WriteFault → Wrote AddsPrefix (form.order_told (texts_of words.now)) (S.left source.old) (all_handed M.state P.state F.state parts.old.items) (all_handed M.state P.state F.state parts.new.items) (K.holds sink.old) (K.holds sink.new) }
+    ensures memory { result ≡ Status.Memory → (K.holds sink.new ≡ K.holds sink.old) ⊎ Wrote AddsPrefix (form.order_told (texts_of words.now)) (S.left source.old) (all_handed M.state P.state F.state parts.old.items) (all_handed M.state P.state F.state parts.new.items) (K.holds sink.old) (K.holds sink.new) }
+    // The parts are then as they were, or the drivers that the stack took are gone, or they came back after a run.
+    ensures given_up { result ≡ Status.Memory → (parts.new.items ≡ parts.old.items) ⊎ GaveUp (S.left source.old) (all_handed M.state P.state F.state parts.old.items) (all_handed M.state P.state F.state parts.new.items) }
     // Where nothing was run nothing is written, and the drivers are as they were.
     ensures silent { IsTrue (is_early result) → K.holds sink.new ≡ K.holds sink.old }
     ensures kept { IsTrue (is_early result) → parts.new.items ≡ parts.old.items }
     // Whatever drivers come back may be handed in again.
-    ensures idle { All AreIdle (map (λ p. handed_of M.state P.state F.state p) parts.new.items) }
+    ensures idle { All AreIdle (all_handed M.state P.state F.state parts.new.items) }
     // Where nothing is amiss it is done, or drivers are wanting, unless memory runs out.
-    ensures complete { form.is_form (map (λ w. string_bytes w) words.now) ≢ false → (fine : IsFine (S.left source.old)) → ¬ LacksFirst fine.script (map (λ p. handed_of M.state P.state F.state p) parts.old.items) → ¬ Rose (S.faults source.old) (S.faults source.new) → ¬ Rose (K.faults sink.old) (K.faults sink.new) → IsDone result }
-    ensures lacking { form.is_form (map (λ w. string_bytes w) words.now) ≢ false → (fine : IsFine (S.left source.old)) → LacksFirst fine.script (map (λ p. handed_of M.state P.state F.state p) parts.old.items) → ¬ Rose (S.faults source.old) (S.faults source.new) → IsWanting result }
+    ensures complete { form.is_form (texts_of words.now) ≢ false → (fine : IsFine (S.left source.old)) → ¬ LacksFirst fine.script (all_handed M.state P.state F.state parts.old.items) → ¬ Rose (S.faults source.old) (S.faults source.new) → ¬ Rose (K.faults sink.old) (K.faults sink.new) → IsDone result }
+    ensures lacking { form.is_form (texts_of words.now) ≢ false → (fine : IsFine (S.left source.old)) → LacksFirst fine.script (all_handed M.state P.state F.state parts.old.items) → ¬ Rose (S.faults source.old) (S.faults source.new) → IsWanting result }
 {
     let order = match order_of(alloc, words) {
         Ok(Some(order)) => order,
@@ -150,18 +152,19 @@ fn replay<K: Sink, M: MiniportCalls, P: ProtocolCalls, F: FilterCalls>(
     parts: &mut Vec<StackDrivers<M, P, F>>,
 ) -> Status
     requires built { is_built script.now ≡ true }
-    requires idle { All AreIdle (map (λ p. handed_of M.state P.state F.state p) parts.old.items) }
+    requires idle { All AreIdle (all_handed M.state P.state F.state parts.old.items) }
     ensures late { IsTrue (ends_replay result) }
-    ensures lacks { (k : ℕ) → result ≡ Status.NoParts k → (k ≡ 0) × LacksFirst script.now (map (λ p. handed_of M.state P.state F.state p) parts.old.items) }
+    ensures lacks { (k : ℕ) → result ≡ Status.NoParts k → (k ≡ 0) × LacksFirst script.now (all_handed M.state P.state F.state parts.old.items) }
     ensures fault { result ≡ Status.WriteFault → Rose (K.faults sink.old) (K.faults sink.new) }
-    ensures done { result ≡ Status.Done → Replayed AddsAll script.now order.now (map (λ p. handed_of M.state P.state F.state p) parts.old.items) (map (λ p. handed_of M.state P.state F.state p) parts.new.items) (K.holds sink.old) (K.holds sink.new) }
-    ensures cut { result ≡ Status.WriteFault → Replayed AddsPrefix script.now order.now (map (λ p. handed_of M.state P.state F.state p) parts.old.items) (map (λ p. handed_of M.state P.state F.state p) parts.new.items) (K.holds sink.old) (K.holds sink.new) }
-    ensures memory { result ≡ Status.Memory → (K.holds sink.new ≡ K.holds sink.old) ⊎ Replayed AddsPrefix script.now order.now (map (λ p. handed_of M.state P.state F.state p) parts.old.items) (map (λ p. handed_of M.state P.state F.state p) parts.new.items) (K.holds sink.old) (K.holds sink.new) }
+    ensures done { result ≡ Status.Done → Replayed AddsAll script.now order.now (all_handed M.state P.state F.state parts.old.items) (all_handed M.state P.state F.state parts.new.items) (K.holds sink.old) (K.holds sink.new) }
+    ensures cut { result ≡ Status.WriteFault → Replayed AddsPrefix script.now order.now (all_handed M.state P.state F.state parts.old.items) (all_handed M.state P.state F.state parts.new.items) (K.holds sink.old) (K.holds sink.new) }
+    ensures memory { result ≡ Status.Memory → (K.holds sink.new ≡ K.holds sink.old) ⊎ Replayed AddsPrefix script.now order.now (all_handed M.state P.state F.state parts.old.items) (all_handed M.state P.state F.state parts.new.items) (K.holds sink.old) (K.holds sink.new) }
+    ensures given_up { result ≡ Status.Memory → (parts.new.items ≡ parts.old.items) ⊎ GivesUp script.now.stacks (all_handed M.state P.state F.state parts.old.items) (all_handed M.state P.state F.state parts.new.items) }
     ensures silent { (k : ℕ) → result ≡ Status.NoParts k → K.holds sink.new ≡ K.holds sink.old }
     ensures kept { (k : ℕ) → result ≡ Status.NoParts k → parts.new.items ≡ parts.old.items }
-    ensures idle { All AreIdle (map (λ p. handed_of M.state P.state F.state p) parts.new.items) }
-    ensures complete { ¬ LacksFirst script.now (map (λ p. handed_of M.state P.state F.state p) parts.old.items) → ¬ Rose (K.faults sink.old) (K.faults sink.new) → IsDone result }
-    ensures lacking { LacksFirst script.now (map (λ p. handed_of M.state P.state F.state p) parts.old.items) → IsWanting result }
+    ensures idle { All AreIdle (all_handed M.state P.state F.state parts.new.items) }
+    ensures complete { ¬ LacksFirst script.now (all_handed M.state P.state F.state parts.old.items) → ¬ Rose (K.faults sink.old) (K.faults sink.new) → IsDone result }
+    ensures lacking { LacksFirst script.now (all_handed M.state P.state F.state parts.old.items) → IsWanting result }
 {
     let journal = match run_first(alloc, script, order, parts) {
         Ok(journal) => journal,
@@ -182,14 +185,15 @@ fn run_first<M: MiniportCalls, P: ProtocolCalls, F: FilterCalls>(
     parts: &mut Vec<StackDrivers<M, P, F>>,
 ) -> Result<FlatJournal, Status>
     requires built { is_built script.now ≡ true }
-    requires idle { All AreIdle (map (λ p. handed_of M.state P.state F.state p) parts.old.items) }
+    requires idle { All AreIdle (all_handed M.state P.state F.state parts.old.items) }
     ensures run { IfOk result (λ journal. IsRun script.now order.now journal.head journal.turns) }
-    ensures back { IfOk result (λ journal. AreBack script.now.stacks journal.turns (map (λ p. handed_of M.state P.state F.state p) parts.old.items) (map (λ p. handed_of M.state P.state F.state p) parts.new.items)) }
-    ensures enough { OnOk result (¬ LacksFirst script.now (map (λ p. handed_of M.state P.state F.state p) parts.old.items)) }
+    ensures back { IfOk result (λ journal. AreBack script.now.stacks journal.turns (all_handed M.state P.state F.state parts.old.items) (all_handed M.state P.state F.state parts.new.items)) }
+    ensures enough { OnOk result (¬ LacksFirst script.now (all_handed M.state P.state F.state parts.old.items)) }
     ensures wanting { IfErr result (λ status. IsWanting status) }
-    ensures lacks { IfErr result (λ status. (k : ℕ) → status ≡ Status.NoParts k → LacksFirst script.now (map (λ p. handed_of M.state P.state F.state p) parts.old.items)) }
+    ensures lacks { IfErr result (λ status. (k : ℕ) → status ≡ Status.NoParts k → LacksFirst script.now (all_handed M.state P.state F.state parts.old.items)) }
     ensures kept { IfErr result (λ status. (k : ℕ) → status ≡ Status.NoParts k → parts.new.items ≡ parts.old.items) }
-    ensures idle { All AreIdle (map (λ p. handed_of M.state P.state F.state p) parts.new.items) }
+    ensures given_up { IfErr result (λ status. status ≡ Status.Memory → (parts.new.items ≡ parts.old.items) ⊎ OthersAreLeft script.now.stacks (all_handed M.state P.state F.state parts.old.items) (all_handed M.state P.state F.state parts.new.items)) }
+    ensures idle { All AreIdle (all_handed M.state P.state F.state parts.new.items) }
 {
     if parts.is_empty() {
         return Err(Status::NoParts { stack: 0 });
@@ -217,6 +221,7 @@ fn run_over<M: MiniportCalls, P: ProtocolCalls, F: FilterCalls>(
     ensures enough { OnOk result (¬ LacksDrivers script.now.stacks (handed_of M.state P.state F.state parts.old)) }
     ensures lacks { IfErr result (λ e. e ≡ RunFault.NoParts → LacksDrivers script.now.stacks (handed_of M.state P.state F.state parts.old)) }
     ensures unchanged { IfErr result (λ e. e ≢ RunFault.Lost → parts.new ≡ parts.old) }
+    ensures left { IfErr result (λ e. e ≡ RunFault.Lost → LeavesDrivers script.now.stacks (handed_of M.state P.state F.state parts.old) (handed_of M.state P.state F.state parts.new)) }
     ensures idle { AreIdle (handed_of M.state P.state F.state parts.new) }
 {
     let first = std::mem::replace(parts, no_parts(alloc));

@@ -1,5 +1,5 @@
-use Rattle.std.proofs.Common.{rules, ◌<◌, length, sym, ◌∙◌, arith}
-use Rattle.ndis_cli.proofs.First.{positive, first_back, lacks_first, first_lacks, idle_first, idle_set}
+use Rattle.std.proofs.Common.{rules, ◌<◌, length, sym, ◌∙◌, inl, inr, arith}
+use Rattle.ndis_cli.proofs.First.{positive, first_back, first_left, first_same, lacks_first, first_lacks, idle_first, idle_set}
 use Rattle.ndis_cli.proofs.top.run_first.Goals as goal
 
 pub run_over-requires-clause-idle : goal.run_over-requires-clause-idle
@@ -33,3 +33,13 @@ returns-in-Err-Memory-clause-idle g c = idle_set _ _ c.run_over.new.parts c.in-E
 
 pub returns-in-Err-Lost-clause-idle : goal.returns-in-Err-Lost-clause-idle
 returns-in-Err-Lost-clause-idle g c = idle_set _ _ c.run_over.new.parts c.in-Err-Lost.ensures.idle c.requires.idle
+
+pub returns-in-Err-Memory-clause-given_up : goal.returns-in-Err-Memory-clause-given_up
+returns-in-Err-Memory-clause-given_up g c e =
+    let some : 0 < length c.args.parts.now.items = omega (arith, positive _ (sym c.is_empty.ensures ∙ c.if-is_empty.false), c.args.parts.now.ok.0) in
+    inl (first_same _ c.index_mut.result.now c.run_over.new.parts some c.index_mut.ensures.value (c.in-Err-Memory.ensures.unchanged (search rules)))
+
+pub returns-in-Err-Lost-clause-given_up : goal.returns-in-Err-Lost-clause-given_up
+returns-in-Err-Lost-clause-given_up g c e =
+    let some : 0 < length c.args.parts.now.items = omega (arith, positive _ (sym c.is_empty.ensures ∙ c.if-is_empty.false), c.args.parts.now.ok.0) in
+    inr (first_left _ _ _ c.index_mut.result.now c.run_over.new.parts some c.index_mut.ensures.value (c.in-Err-Lost.ensures.left c.in-Err-Lost.field-0-is))
