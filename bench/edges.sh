@@ -82,6 +82,7 @@ whole='bad script at whole:'
 
 edge 'no words' 1 "$usage" '$ndis'
 edge 'an unknown word' 1 "$usage" '$ndis run <"$example"'
+edge 'an option of another command' 1 "$usage" '$ndis replay --seed 1 <"$example"'
 edge 'a flag' 1 "$usage" '$ndis --help'
 edge 'two dashes' 1 "$usage" '$ndis -- replay <"$example"'
 edge 'an empty word' 1 "$usage" '$ndis "" <"$example"'
@@ -175,6 +176,9 @@ edge 'error to a pipe that nobody reads, a bad script' 2 '' '{ sleep 0.5; $ndis 
 edge 'error closed, a directory as input' 3 '' '$ndis replay </ 2>&-'
 edge 'error full, output closed' 4 '' '$ndis replay <"$example" >&- 2>/dev/full'
 edge 'all closed' 3 '' '$ndis replay <&- >&- 2>&-'
+
+# A script that is right and can't be run yet.
+edge 'joined stacks' 2 'bad script at whole: NotBuilt' '$ndis replay <crates/walked_runs/data/two-virtual-stacks.script.json'
 
 # Each faulty script that script_cases reads, with the line that stands there.
 if is_proved; then

@@ -7,10 +7,6 @@ It reads the tables of the page: members and their words, calls, tests and actio
 faults, lines, events with their answers, refusals, and rows. Each is looked for in the recorded scripts
 and reports of crates/*/data, and the causes in what script_cases prints. It prints a line for each that
 is missing, then how many it looked for, and ends with status 1 where any is missing.
-
-Not looked for is what no script can bring about: refusals after an adapter that refused to be
-initialised (the program's never do), those of messages that were never taken or are too long for their
-stack, and the cause NotBuilt, which is the program's and not the reader's.
 """
 import glob
 import json
@@ -18,10 +14,10 @@ import os
 import re
 import sys
 
-BEYOND_SCRIPTS = {"InitRefused", "Unbound", "HaltedNow", "TooLong", "NotTaken"}
-BEYOND_THE_READER = {"NotBuilt"}
-
 TOP = os.path.join(os.path.dirname(os.path.abspath(__file__)), "..")
+
+# What the page says before the refusals that no run of the program has.
+NEVER = "No run of the program has"
 
 looked_for = 0
 missing = []
@@ -143,43 +139,44 @@ def look_at_scripts(tables, scripts):
 def look_at_causes(tables):
     told = read("crates/script_cases/stdout")
     for row in tables["cause"]:
-        if row[0] not in BEYOND_THE_READER:
-            look(f"cause: {row[0]}", re.search(rf"[:,] {row[0]}$", told, re.M))
+        look(f"cause: {row[0]}", re.search(rf": {row[0]}$", told, re.M))
 
 
 def look_at_turns(tables, page, turns):
     """Each turn is the words of who asked, the event and the answer."""
     for events, answers in tables["event"]:
-        asked, told = quoted(events), quoted(answers)
-        # as many answers as events are told in pairs, else each event has each answer
-        pairs = zip(asked, told) if len(asked) == len(told) else [(e, a) for e in asked for a in told]
-        for event, answer in pairs:
-            name, word = event.split()[0], answer.split()[0]
-            look(f"event: {name} = {word}", any(t[1][0] == name and t[2][0] == word for t in turns))
-    refusals = page[page.index("Each event may be answered"):]
-    for cause in quoted(refusals[:refusals.index("\n")])[1:]:
+        asked = {event.split()[0] for event in quoted(events)}
+        told = {answer.split()[0] for answer in quoted(answers)}
+        for name in sorted(asked):
+            look(f"event: {name}", any(t[1][0] == name and t[2][0] in told for t in turns))
+        for name in sorted(told):
+            look(f"answer: {name}", any(t[1][0] in asked and t[2][0] == name for t in turns))
+    refusals = page[page.index("Each event may be answered"):].split("\n")[0]
+    refusals, never = refusals.split(NEVER)
+    never = set(quoted(never))
+    for cause in quoted(refusals)[1:]:
         name = cause.split()[0]
-        if name not in BEYOND_SCRIPTS:
-            look(f"refusal: {name}", any(t[2][:2] == ["refused", name] for t in turns))
+        is_told = any(t[2][:2] == ["refused", name] for t in turns)
+        if name in never:
+            look(f"refusal: {name} stands in a run, and the page says it never does", not is_told)
+        else:
+            look(f"refusal: {name}", is_told)
     for who in ("own", "call", "help"):
         look(f"turn: {who}", any(t[0][0] == who for t in turns))
 
 
 def look_at_rows(tables, rows):
-    kinds = {row[0] for row in rows}
     for examples, told in tables["row"]:
-        own_kinds = {example.split()[0] for example in quoted(examples)}
-        kind = "/".join(sorted(own_kinds))
+        kind = examples.strip("`").split()[0]
         for example in quoted(examples):
             look(f"row: {example}", any(row == shapes(example) for row in rows))
-        own = [row for row in rows if row[0] in own_kinds]
+        kinds = {example.split()[0] for example in quoted(examples)}
+        own = [row for row in rows if row[0] in kinds]
         for item in quoted(told):
             words = shapes(item)
             look(f"row {kind}: {item}", words == ["-"] or any(has_words(row, words) for row in own))
         for status in re.findall(r"\b(Success|Dropped|Resources|Aborted|Paused|NotSupported|BadLength)\b", told):
-            words = examples + told
-            look(f"row {kind}: {status}", any(status in row for row in own) or status not in words)
-    look("row: none", kinds)
+            look(f"row {kind}: {status}", any(status in row for row in own))
 
 
 def main():

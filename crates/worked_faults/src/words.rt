@@ -38,6 +38,9 @@ fn lines_without_order(alloc: Global, script: &[u8]) -> Result<String, OutOfMemo
     let mut lines = lines_of_words(alloc, "words replay replay", &["replay", "replay"], script)?;
     let more = lines_of_words(alloc, "word run", &["run"], script)?;
     lines.push_str(more.as_str())?;
+    let seed = &["replay", "--seed", "1"];
+    let more = lines_of_words(alloc, "words replay --seed 1", seed, script)?;
+    lines.push_str(more.as_str())?;
     let more = lines_of_words(alloc, "no word", &[], script)?;
     lines.push_str(more.as_str())?;
     let more = lines_of_words(alloc, "an empty word", &[""], script)?;
