@@ -1,39 +1,29 @@
 -- What clap makes of all the words, and what a form is.
-use Rattle.std.proofs.Common.{ℕ, ◌≡◌, Bool, true, false, cond, List, [], ◌∷◌, ◌++◌, Option, Some, None, refl, sym, ap, ap₂, ◌∙◌, codes, is_some, ◌⊎◌, inl, inr, length}
-use Rattle.std.specs.Prelude.{slice_get, drop, encode_utf8, ◌||◌}
+use Rattle.std.specs.Prelude.{drop, ◌||◌, option_and_then, unwrap_or}
+use Rattle.std.specs.List.{list_any}
+use Rattle.std.specs.Option.{option_map, option_map_or}
+use Rattle.std.specs.Str.{bytes_eq}
+use Rattle.std.proofs.Common.{ℕ, ◌≡◌, Bool, true, false, cond, List, [], ◌∷◌, ◌++◌, Option, Some, None, refl, sym, ap, ap₂, ◌∙◌, codes, is_some, ◌⊎◌, inl, inr, length, subst, ◌-◌, ◌&&◌, nat_le, ◌==◌, take, arith, map}
 use Rattle.std.proofs.lemmas.Bool.Decides.{nat_tests}
 use Rattle.std.proofs.lemmas.List.{take-append-drop}
-use Rattle.clap.specs.Lexer.{short_of_rest}
-use Rattle.clap.proofs.WalkLemmas.{both}
-use Rattle.std.proofs.Common.{subst, ◌-◌, ◌&&◌, nat_le, ◌+◌, ◌==◌, not, suc, take, arith, eqb-true}
-use Rattle.std.specs.Prelude.{option_and_then, unwrap_or}
-use Rattle.std.specs.List.{before_first, position_or_len}
-use Rattle.clap.specs.Lexer.{has_byte, long_of_rest, name_and_value, strip_byte}
 use Rattle.std.proofs.lemmas.Slice.Eq.{bytes_eq-Decides}
-use Rattle.std.specs.List.{list_any}
-use Rattle.std.specs.Prelude.{fold}
-use Rattle.std.specs.Option.{option_map, option_map_or}
-use Rattle.clap.proofs.WalkLemmas.{walk_stopped, list_any-map, first_value-rows}
+use Rattle.clap.specs.Lexer.{short_of_rest, long_of_rest, strip_byte, long_of, short_of}
 use Rattle.clap.specs.Matches.{first_value, found_of}
 use Rattle.clap.specs.declared.error.kind.ErrorKind.TheVariants.{OutOfMemory}
 use Rattle.clap.specs.declared.parser.matches.ArgMatches.{ArgMatches}
-use Rattle.std.proofs.Common.{map}
-use Rattle.clap.proofs.FaultLemmas.{stopped_fault}
-use Rattle.clap.specs.declared.builder.value_parser.Reading.TheVariants.{AsWritten}
-use Rattle.clap.specs.declared.parser.matches.ValueSource.TheVariants.{CommandLine}
-use Rattle.std.specs.Str.{bytes_eq, chars}
-use Rattle.clap.specs.Lexer.{long_of, short_of}
-use Rattle.clap.specs.Walk.{rows_of, subcommand, subcommand_or_other, nothing_held, finished, first_of, settled, bundle_step, bundle_met, after_flag, plain, Row, Rule, Held, Walk, Step, Waiting, Names, Text, idle, option, value, trailing, arg_by_short, arg_by_long, after_step, long_or_other, long_word, plain_word, pushed, short_or_plain, walk_from, walked}
-use Rattle.clap.specs.Simple.{HasMatchesOf, subcommand_rows_of, entered, App, Shape, built, filled, is_simple, subcommand_of, names_of, built_leaf, inherited}
+use Rattle.clap.specs.Walk.{rows_of, subcommand_or_other, nothing_held, finished, first_of, settled, Row, Held, Walk, Step, Names, Text, idle, trailing, after_step, long_or_other, short_or_plain, walk_from}
+use Rattle.clap.specs.Simple.{HasMatchesOf, subcommand_rows_of, entered, Shape, built, subcommand_of, names_of}
 use Rattle.clap.specs.Kinds.{IsAmong, Kinds, or_else}
-use Rattle.clap.specs.Faults.{other_fault, entered_fault, check_fault, defaults_fault, settle_fault, bundle_step_fault, flags_fault, bundle_fault, fault_of, flag_word_fault, is_simple_and_free, long_fault, short_fault, step_fault, turn_fault, walk_fault}
+use Rattle.clap.specs.Faults.{other_fault, entered_fault, check_fault, defaults_fault, settle_fault, bundle_fault, fault_of, flag_word_fault, step_fault, turn_fault}
 use Rattle.clap.specs.declared.error.kind.ErrorKind.{ErrorKind}
+use Rattle.clap.proofs.WalkLemmas.{both, walk_stopped, list_any-map, first_value-rows}
+use Rattle.clap.proofs.FaultLemmas.{stopped_fault}
 use Rattle.clap.proofs.OnLiterals.{clap_on_literals}
-use Rattle.command_words.proofs.ReplayWords.{some_kind, neither, dashes, order_rule, leaf, rules, held, at, flagless, fault_by, walk_by, empty, waits_for_order, end_fault, lack_dashes, first_lacks, rest_fault, order_at_end, rest_read}
-use Rattle.command_words.specs.Command.{asked, command, order_asked, order_option, replay}
+use Rattle.command_words.specs.Command.{asked, command, order_asked}
 use Rattle.command_words.specs.Words.{order_in, named_in, lanes_in, is_lane, joined_lanes}
+use Rattle.command_words.proofs.ReplayWords.{some_kind, neither, dashes, leaf, rules, held, at, flagless, fault_by, walk_by, empty, waits_for_order, end_fault, lack_dashes, first_lacks, rest_read}
 
-
+-- the command as it is built, and its fault where a walk has ended
 abbrev top : Shape
 top = (built command).top
 
@@ -45,6 +35,7 @@ top_fault end kinds =
     or_else kinds (or_else (entered_fault (built command) end.stopped) (or_else (settle_fault top.rules top.args_override_self end.held) (or_else (defaults_fault (settled top.rules end.held).rows top.rules)
     (check_fault top (finished top.rules end.held) (is_some (entered (built command) end.stopped))))))
 
+-- what clap reads behind `replay` is what the words ask for
 replay_read : (rest : List Text) → lack_dashes rest → fault_of command (codes "replay" ∷ rest) ≡ [] → order_in (codes "replay" ∷ rest) ≡ order_asked (subcommand_of command (codes "replay" ∷ rest))
 unfolding clap_on_literals
 replay_read rest lack fault =
@@ -53,7 +44,7 @@ replay_read rest lack fault =
     let passes : top_fault (record (walk_from nothing_held) { stopped = Some (name, rest) }) [] ≡ [] = ap₂ top_fault end (sym (stopped_fault top names (walk_from nothing_held) (name, []) rest)) ∙ fault in
     rest_read rest lack (neither _ _ passes).0 ∙ ap (λ (w : Walk). order_asked (entered (built command) w.stopped)) end
 
--- a first word that is no long flag or no flag, by whether it is `replay` and by what it is else
+-- the fault of a first word, by whether it is `replay`, and else by what it looks like
 abbrev named_by : Bool → Option Text
 named_by is_replay = option_map (λ (s : Text × List Text). s.0) (cond (is_replay || false) (Some (codes "replay", [])) None)
 
@@ -65,6 +56,7 @@ other_first word is_dashes long =
     or_else (cond is_dashes [] (flag_word_fault [] false long word nothing_held))
     (step_fault top 1 (cond is_dashes (nothing_held, trailing 1) (long_or_other [] idle word long nothing_held)).0 (cond is_dashes (nothing_held, trailing 1) (long_or_other [] idle word long nothing_held)).1)
 
+-- any other first word is refused
 plain_first : (word : Text) → other_first word false None ≡ [] → ⊥
 plain_first word fault =
     let parts = neither _ _ fault in
@@ -81,6 +73,7 @@ not_replay word none other fault = by_long (long_of word) refl (sym (ap (λ (b :
     by_long None e f = plain_first word (sym (ap₂ (other_first word) none e) ∙ f)
     by_long (Some p) e f = long_first word p (sym (ap₂ (other_first word) none e) ∙ f)
 
+-- what clap reads in words that it takes is what they ask for
 pub read_exactly : (words : List Text) → lack_dashes words → fault_of command words ≡ [] → order_in words ≡ order_asked (subcommand_of command words)
 unfolding clap_on_literals
 read_exactly [] lack fault = some_kind fault
@@ -97,6 +90,7 @@ tested : {X : Type 0} (b : Bool) (x : Option X) → is_some (cond b x None) ≡ 
 tested true x e = (refl, e)
 tested false x e = absurd (cc)
 
+-- lanes begin with a digit, and so with no hyphen
 no_hyphen : (d : ℕ) → is_lane d ≡ true → (d == 45) ≡ false
 no_hyphen d e = grind (arith, nat_tests, e)
 
@@ -104,6 +98,7 @@ starts_with_lane : (d : ℕ) (others : Text) → is_some (joined_lanes (d ∷ ot
 starts_with_lane d [] e = (tested (is_lane d) (Some ((d - 48) ∷ [])) e).0
 starts_with_lane d (comma ∷ others) e = (both _ _ (tested (is_lane d && comma == 44) (option_map (λ (lanes : List ℕ). (d - 48) ∷ lanes) (joined_lanes others)) e).0).0
 
+-- the three forms
 alone : fault_of command (codes "replay" ∷ []) ≡ []
 unfolding clap_on_literals
 alone = refl
@@ -155,7 +150,6 @@ form_passes (word ∷ name ∷ lanes ∷ []) form =
     ∙ in_two_words lanes parts.1
 form_passes (a ∷ b ∷ c ∷ d ∷ words) form = absurd (cc)
 
--- no form has `--` in it
 either : (a b : Bool) → (a || b) ≡ true → (a ≡ true) ⊎ (b ≡ true)
 either true b e = inl refl
 either false b e = inr e
@@ -167,6 +161,7 @@ either_none false = refl
 are_dashes : (word : Text) → bytes_eq word dashes ≡ true → word ≡ dashes
 are_dashes word e = (bytes_eq-Decides word dashes).0 e
 
+-- no form has `--` in it
 pub no_dashes : (words : List Text) → list_any (λ word. bytes_eq word dashes) words ≡ true → order_in words ≡ None
 no_dashes [] some = absurd (cc)
 no_dashes (word ∷ []) some = elim (either _ _ some) [
@@ -176,19 +171,19 @@ no_dashes (word ∷ []) some = elim (either _ _ some) [
 no_dashes (word ∷ order ∷ []) some = elim (either _ _ some) [
   | inl e ↦ ap (λ (w : Text). order_in (w ∷ order ∷ [])) (are_dashes word e)
   | inr more ↦ elim (either _ _ more) [
-      | inl e ↦ ap (λ (o : Text). order_in (word ∷ o ∷ [])) (are_dashes order e) ∙ either_none (bytes_eq word (codes "replay"))
-      | inr e ↦ absurd (cc)
-    ]
+    | inl e ↦ ap (λ (o : Text). order_in (word ∷ o ∷ [])) (are_dashes order e) ∙ either_none (bytes_eq word (codes "replay"))
+    | inr e ↦ absurd (cc)
+  ]
 ]
 no_dashes (word ∷ name ∷ lanes ∷ []) some = elim (either _ _ some) [
   | inl e ↦ ap (λ (w : Text). order_in (w ∷ name ∷ lanes ∷ [])) (are_dashes word e)
   | inr more ↦ elim (either _ _ more) [
-      | inl e ↦ ap (λ (n : Text). order_in (word ∷ n ∷ lanes ∷ [])) (are_dashes name e) ∙ other_name (bytes_eq word (codes "replay"))
-      | inr last ↦ elim (either _ _ last) [
-          | inl e ↦ ap (λ (l : Text). order_in (word ∷ name ∷ l ∷ [])) (are_dashes lanes e) ∙ either_none (bytes_eq word (codes "replay") && bytes_eq name (codes "--order"))
-          | inr e ↦ absurd (cc)
-        ]
+    | inl e ↦ ap (λ (n : Text). order_in (word ∷ n ∷ lanes ∷ [])) (are_dashes name e) ∙ other_name (bytes_eq word (codes "replay"))
+    | inr last ↦ elim (either _ _ last) [
+      | inl e ↦ ap (λ (l : Text). order_in (word ∷ name ∷ l ∷ [])) (are_dashes lanes e) ∙ either_none (bytes_eq word (codes "replay") && bytes_eq name (codes "--order"))
+      | inr e ↦ absurd (cc)
     ]
+  ]
 ]
   where
     other_name : (b : Bool) → cond (b && false) (lanes_in lanes) None ≡ None
@@ -198,6 +193,7 @@ no_dashes (a ∷ b ∷ c ∷ d ∷ words) some = refl
 
 -- ---- as the functions say it
 
+-- words with `--` are no form
 pub dashes_mapped : {X : Type 0} (f : X → Text) (words : List X) → list_any (λ w. bytes_eq (f w) dashes) words ≡ true → None ≡ order_in (map f words)
 dashes_mapped f words some = sym (no_dashes (map f words) (sym (list_any-map (λ w. bytes_eq w dashes) f words) ∙ some))
 

@@ -1,44 +1,19 @@
 -- What a word is that clap reads as a long flag.
-use Rattle.std.proofs.Common.{ℕ, ◌≡◌, Bool, true, false, cond, List, [], ◌∷◌, ◌++◌, Option, Some, None, refl, sym, ap, ap₂, ◌∙◌, codes, is_some, ◌⊎◌, inl, inr, length}
-use Rattle.std.specs.Prelude.{slice_get, drop, encode_utf8, ◌||◌}
-use Rattle.std.proofs.lemmas.Bool.Decides.{nat_tests}
-use Rattle.std.proofs.lemmas.List.{take-append-drop}
-use Rattle.clap.specs.Lexer.{short_of_rest}
-use Rattle.clap.proofs.WalkLemmas.{both}
-use Rattle.std.proofs.Common.{subst, ◌-◌, ◌&&◌, nat_le, ◌+◌, ◌==◌, not, suc, take, arith, eqb-true}
-use Rattle.std.specs.Prelude.{option_and_then, unwrap_or}
+use Rattle.std.specs.Prelude.{drop, ◌||◌, option_and_then, unwrap_or}
 use Rattle.std.specs.List.{before_first, position_or_len}
-use Rattle.clap.specs.Lexer.{has_byte, long_of_rest, name_and_value, strip_byte}
-use Rattle.std.proofs.lemmas.Slice.Eq.{bytes_eq-Decides}
-use Rattle.std.specs.List.{list_any}
-use Rattle.std.specs.Prelude.{fold}
-use Rattle.std.specs.Option.{option_map, option_map_or}
-use Rattle.clap.proofs.WalkLemmas.{walk_stopped, list_any-map, first_value-rows}
-use Rattle.clap.specs.Matches.{first_value, found_of}
-use Rattle.clap.specs.declared.error.kind.ErrorKind.TheVariants.{OutOfMemory}
-use Rattle.clap.specs.declared.parser.matches.ArgMatches.{ArgMatches}
-use Rattle.std.proofs.Common.{map}
-use Rattle.clap.proofs.FaultLemmas.{stopped_fault}
-use Rattle.clap.specs.declared.builder.value_parser.Reading.TheVariants.{AsWritten}
-use Rattle.clap.specs.declared.parser.matches.ValueSource.TheVariants.{CommandLine}
-use Rattle.std.specs.Str.{bytes_eq, chars}
-use Rattle.clap.specs.Lexer.{long_of, short_of}
-use Rattle.clap.specs.Walk.{rows_of, subcommand, subcommand_or_other, nothing_held, finished, first_of, settled, bundle_step, bundle_met, after_flag, plain, Row, Rule, Held, Walk, Step, Waiting, Names, Text, idle, option, value, trailing, arg_by_short, arg_by_long, after_step, long_or_other, long_word, plain_word, pushed, short_or_plain, walk_from, walked}
-use Rattle.clap.specs.Simple.{HasMatchesOf, subcommand_rows_of, entered, App, Shape, built, filled, is_simple, subcommand_of, names_of, built_leaf, inherited}
-use Rattle.clap.specs.Kinds.{IsAmong, Kinds, or_else}
-use Rattle.clap.specs.Faults.{other_fault, entered_fault, check_fault, defaults_fault, settle_fault, bundle_step_fault, flags_fault, bundle_fault, fault_of, flag_word_fault, is_simple_and_free, long_fault, short_fault, step_fault, turn_fault, walk_fault}
-use Rattle.clap.specs.declared.error.kind.ErrorKind.{ErrorKind}
-use Rattle.clap.proofs.OnLiterals.{clap_on_literals}
-use Rattle.command_words.specs.Command.{asked, command, order_asked, order_option, replay}
-use Rattle.command_words.specs.Words.{order_in, named_in, lanes_in, is_lane, joined_lanes}
+use Rattle.std.specs.Option.{option_map_or}
+use Rattle.std.proofs.Common.{ℕ, ◌≡◌, Bool, true, false, cond, [], ◌∷◌, ◌++◌, Option, Some, None, refl, sym, ap, ap₂, ◌∙◌, codes, ◌+◌, ◌==◌, not, suc, take, arith, eqb-true}
+use Rattle.clap.specs.Lexer.{has_byte, long_of_rest, name_and_value, strip_byte, long_of}
+use Rattle.clap.specs.Walk.{Text}
 
--- the text in front of the first `=`, and what stands behind it
+-- what stands behind the name of a flag in its word
 abbrev with_value : Option Text → Text
 with_value attached = option_map_or (λ lanes. 61 ∷ lanes) attached []
 
 abbrev value_of : Text → Option Text
 value_of text = (name_and_value text).1
 
+-- a text is what stands in front of its first `=`, and that with what stands behind it
 split_is : (text : Text) → text ≡ before_first (λ x. x == 61) text ++ with_value (value_of text)
 split_is [] = refl
 split_is (x ∷ xs) = by_test (split_is xs) (x == 61) refl
@@ -53,6 +28,7 @@ split_is (x ∷ xs) = by_test (split_is xs) (x == 61) refl
         ap (λ (ys : Text). x ∷ ys) rest
         ∙ sym (ap₂ (λ (i j : ℕ). take i (x ∷ xs) ++ with_value (cond (has_byte 61 xs) (Some (drop j (x ∷ xs))) None)) front behind)
 
+-- a text whose first byte was taken off
 stripped : (c : ℕ) (text rest : Text) → strip_byte c text ≡ Some rest → text ≡ c ∷ rest
 stripped c [] rest e = absurd (cc)
 stripped c (x ∷ xs) rest e = by_test (x == c) refl
@@ -65,6 +41,7 @@ stripped c (x ∷ xs) rest e = by_test (x == c) refl
         let none : ◌≡◌ {A = Option Text} None (Some rest) = sym (ap (λ (b : Bool). cond b (Some xs) None) other) ∙ e in
         absurd (cc)
 
+-- a long flag by its name and its value
 pub long_word_of : (word name : Text) (attached : Option Text) → long_of word ≡ Some (name, attached) → word ≡ codes "--" ++ name ++ option_map_or (λ lanes. 61 ∷ lanes) attached []
 long_word_of word name attached e = by_first (strip_byte 45 word) refl
   where

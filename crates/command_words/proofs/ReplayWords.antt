@@ -1,39 +1,24 @@
 -- What clap makes of the words behind `replay`.
-use Rattle.std.proofs.Common.{ℕ, ◌≡◌, Bool, true, false, cond, List, [], ◌∷◌, ◌++◌, Option, Some, None, refl, sym, ap, ap₂, ◌∙◌, codes, is_some, ◌⊎◌, inl, inr, length}
-use Rattle.std.specs.Prelude.{slice_get, drop, encode_utf8, ◌||◌}
-use Rattle.std.proofs.lemmas.Bool.Decides.{nat_tests}
-use Rattle.std.proofs.lemmas.List.{take-append-drop}
-use Rattle.clap.specs.Lexer.{short_of_rest}
-use Rattle.clap.proofs.WalkLemmas.{both}
-use Rattle.std.proofs.Common.{subst, ◌-◌, ◌&&◌, nat_le, ◌+◌, ◌==◌, not, suc, take, arith, eqb-true}
-use Rattle.std.specs.Prelude.{option_and_then, unwrap_or}
-use Rattle.std.specs.List.{before_first, position_or_len}
-use Rattle.clap.specs.Lexer.{has_byte, long_of_rest, name_and_value, strip_byte}
-use Rattle.std.proofs.lemmas.Slice.Eq.{bytes_eq-Decides}
+use Rattle.std.specs.Prelude.{slice_get, drop, encode_utf8, ◌||◌, fold}
 use Rattle.std.specs.List.{list_any}
-use Rattle.std.specs.Prelude.{fold}
-use Rattle.std.specs.Option.{option_map, option_map_or}
-use Rattle.clap.proofs.WalkLemmas.{walk_stopped, list_any-map, first_value-rows}
-use Rattle.clap.specs.Matches.{first_value, found_of}
-use Rattle.clap.specs.declared.error.kind.ErrorKind.TheVariants.{OutOfMemory}
-use Rattle.clap.specs.declared.parser.matches.ArgMatches.{ArgMatches}
-use Rattle.std.proofs.Common.{map}
-use Rattle.clap.proofs.FaultLemmas.{stopped_fault}
+use Rattle.std.specs.Option.{option_map_or}
+use Rattle.std.specs.Str.{bytes_eq, chars}
+use Rattle.std.proofs.Common.{ℕ, ◌≡◌, Bool, true, false, cond, List, [], ◌∷◌, Option, Some, None, refl, sym, ap, ap₂, ◌∙◌, codes, length, subst}
+use Rattle.std.proofs.lemmas.Slice.Eq.{bytes_eq-Decides}
 use Rattle.clap.specs.declared.builder.value_parser.Reading.TheVariants.{AsWritten}
 use Rattle.clap.specs.declared.parser.matches.ValueSource.TheVariants.{CommandLine}
-use Rattle.std.specs.Str.{bytes_eq, chars}
 use Rattle.clap.specs.Lexer.{long_of, short_of}
-use Rattle.clap.specs.Walk.{rows_of, subcommand, subcommand_or_other, nothing_held, finished, first_of, settled, bundle_step, bundle_met, after_flag, plain, Row, Rule, Held, Walk, Step, Waiting, Names, Text, idle, option, value, trailing, arg_by_short, arg_by_long, after_step, long_or_other, long_word, plain_word, pushed, short_or_plain, walk_from, walked}
-use Rattle.clap.specs.Simple.{HasMatchesOf, subcommand_rows_of, entered, App, Shape, built, filled, is_simple, subcommand_of, names_of, built_leaf, inherited}
-use Rattle.clap.specs.Kinds.{IsAmong, Kinds, or_else}
-use Rattle.clap.specs.Faults.{other_fault, entered_fault, check_fault, defaults_fault, settle_fault, bundle_step_fault, flags_fault, bundle_fault, fault_of, flag_word_fault, is_simple_and_free, long_fault, short_fault, step_fault, turn_fault, walk_fault}
+use Rattle.clap.specs.Walk.{finished, first_of, settled, bundle_step, bundle_met, after_flag, plain, Row, Rule, Held, Walk, Step, Waiting, Text, idle, option, trailing, arg_by_short, arg_by_long, after_step, long_or_other, plain_word, short_or_plain, walked}
+use Rattle.clap.specs.Simple.{Shape, filled, built_leaf, inherited}
+use Rattle.clap.specs.Kinds.{Kinds, or_else}
+use Rattle.clap.specs.Faults.{check_fault, defaults_fault, settle_fault, bundle_step_fault, flags_fault, bundle_fault, flag_word_fault, long_fault, short_fault, step_fault, turn_fault, walk_fault}
 use Rattle.clap.specs.declared.error.kind.ErrorKind.{ErrorKind}
 use Rattle.clap.proofs.OnLiterals.{clap_on_literals}
+use Rattle.command_words.specs.Command.{asked, command, order_option, replay}
+use Rattle.command_words.specs.Words.{order_in}
 use Rattle.command_words.proofs.LongFlags.{long_word_of}
-use Rattle.command_words.specs.Command.{asked, command, order_asked, order_option, replay}
-use Rattle.command_words.specs.Words.{order_in, named_in, lanes_in, is_lane, joined_lanes}
 
-
+-- a list of kinds that has one is not empty
 is_empty_kinds : Kinds → Bool
 is_empty_kinds [] = true
 is_empty_kinds (k ∷ ks) = false
@@ -44,6 +29,7 @@ some_kind e =
     let bad : false ≡ true = ap is_empty_kinds e in
     absurd (cc)
 
+-- where two steps have no fault neither has
 pub neither : (a b : Kinds) → or_else a b ≡ [] → (a ≡ []) × (b ≡ [])
 neither [] b e = (refl, e)
 neither (k ∷ ks) b e = some_kind e
@@ -86,6 +72,7 @@ flagless c none waiting word rows pending (Some (x ∷ xs)) e = by_first (slice_
 
 -- ---- one word more of the subcommand
 
+-- what the word comes to, what its fault is and where the walk stands after it, by whether it is `--` and by what it is as a long flag
 abbrev met_by : Waiting → Text → Held → Bool → Option (Text × Option Text) → Held × Step
 met_by waiting word h is_dashes long = cond is_dashes (h, trailing 1) (long_or_other rules waiting word long h)
 
@@ -98,19 +85,21 @@ walk_by rows pending waiting word is_dashes long =
     after_step rules word (at rows pending waiting) (met_by waiting word (held rows pending) is_dashes long).0 (met_by waiting word (held rows pending) is_dashes long).1
 
 -- the word names the option
-record Names_order (word : Text) : Type 0 where
+record NamesOrder (word : Text) : Type 0 where
   pub attached : Option Text
   pub is : long_of word ≡ Some (codes "order", attached)
 
-named : (waiting : Waiting) (word : Text) (h : Held) (p : Text × Option Text) → long_of word ≡ Some p → fault_by waiting word h false (Some p) ≡ [] → Names_order word
+-- a long flag that is not refused names the option
+named : (waiting : Waiting) (word : Text) (h : Held) (p : Text × Option Text) → long_of word ≡ Some p → fault_by waiting word h false (Some p) ≡ [] → NamesOrder word
 named waiting word h p e fault = by_name (bytes_eq (codes "order") p.0) refl
   where
-    by_name : (b : Bool) → bytes_eq (codes "order") p.0 ≡ b → Names_order word
+    by_name : (b : Bool) → bytes_eq (codes "order") p.0 ≡ b → NamesOrder word
     by_name true same = record { attached = p.1; is = e ∙ ap (λ (name : Text). Some (name, p.1)) (sym ((bytes_eq-Decides (codes "order") p.0).0 same)) }
     by_name false other =
         let none : arg_by_long rules p.0 ≡ None = ap (λ (b : Bool). cond (b || false) (Some order_rule) None) other in
         some_kind (ap (λ a. long_fault rules false a p.1 h) (sym none) ∙ (neither _ _ fault).0)
 
+-- a word that is no long flag and is not refused goes where a plain word goes
 plain_turn : (waiting : Waiting) (word : Text) (rows : List Row) (pending : Option (Text × List Text)) → fault_by waiting word (held rows pending) false None ≡ []
     → (short_or_plain rules waiting word (short_of word) (held rows pending) ≡ plain_word rules waiting word (held rows pending))
     × (step_fault leaf 1 (plain_word rules waiting word (held rows pending)).0 (plain_word rules waiting word (held rows pending)).1 ≡ [])
@@ -119,11 +108,11 @@ plain_turn waiting word rows pending fault =
     let plain = flagless rules (λ x. refl) waiting word rows pending (short_of word) parts.0 in
     (plain, subst (λ (p : Held × Step). step_fault leaf 1 p.0 p.1 ≡ []) plain parts.1)
 
--- where nothing waits
-idle_turn : (rows : List Row) (pending : Option (Text × List Text)) (word : Text) → bytes_eq word dashes ≡ false → turn_fault leaf [] (at rows pending idle) word ≡ [] → Names_order word
+-- where nothing waits a word that is not refused names the option
+idle_turn : (rows : List Row) (pending : Option (Text × List Text)) (word : Text) → bytes_eq word dashes ≡ false → turn_fault leaf [] (at rows pending idle) word ≡ [] → NamesOrder word
 idle_turn rows pending word none fault = by_long (long_of word) refl
   where
-    by_long : (long : Option (Text × Option Text)) → long_of word ≡ long → Names_order word
+    by_long : (long : Option (Text × Option Text)) → long_of word ≡ long → NamesOrder word
     by_long None e = some_kind (plain_turn idle word rows pending (sym (ap₂ (fault_by idle word (held rows pending)) none e) ∙ fault)).1
     by_long (Some p) e = named idle word (held rows pending) p e (sym (ap₂ (fault_by idle word (held rows pending)) none e) ∙ fault)
 
@@ -137,6 +126,7 @@ asks word = Some (codes "order", word ∷ [])
 abbrev pub waits_for_order : Waiting
 waits_for_order = option (codes "order")
 
+-- there a word that is not refused is the value
 waiting_turn : (rows : List Row) (word : Text) → bytes_eq word dashes ≡ false → turn_fault leaf [] (at rows empty waits_for_order) word ≡ []
     → walked rules [] (at rows empty waits_for_order) word ≡ at rows (asks word) idle
 unfolding walked
@@ -152,11 +142,12 @@ waiting_turn rows word none fault = by_long (long_of word) refl
         refused None e = some_kind e
         refused (Some v) e = some_kind e
 
-        by_value : Names_order word → walked rules [] (at rows empty waits_for_order) word ≡ at rows (asks word) idle
+        by_value : NamesOrder word → walked rules [] (at rows empty waits_for_order) word ≡ at rows (asks word) idle
         by_value n = refused n.attached (neither _ _ (sym (ap₂ (fault_by waits_for_order word (held rows empty)) none n.is) ∙ fault)).0
 
 -- ---- the words behind `replay`
 
+-- the fault of the end, of the words that are left and of that end, and the value of the option there
 abbrev pub end_fault : Held → Kinds
 end_fault h = or_else (settle_fault rules false h) (or_else (defaults_fault (settled rules h).rows rules) (check_fault leaf (finished rules h) false))
 
@@ -169,6 +160,7 @@ rest_fault w words = or_else (walk_fault leaf [] w words) (end_fault (end_of w w
 abbrev pub order_at_end : Walk → List Text → Option Text
 order_at_end w words = first_of (codes "order") (finished rules (end_of w words))
 
+-- no word is `--`
 abbrev pub lack_dashes : List Text → Type 0
 lack_dashes words = list_any (λ word. bytes_eq word dashes) words ≡ false
 
@@ -181,6 +173,7 @@ neither_is true b e =
 pub first_lacks : (word : Text) (words : List Text) → lack_dashes (word ∷ words) → (bytes_eq word dashes ≡ false) × lack_dashes words
 first_lacks word words e = neither_is _ _ e
 
+-- words without a fault have none at the first, and none at the rest
 goes_on : (w : Walk) (word : Text) (words : List Text) → rest_fault w (word ∷ words) ≡ [] → (turn_fault leaf [] w word ≡ []) × (rest_fault (walked rules [] w word) words ≡ [])
 unfolding walk_fault
 goes_on w word words e =
@@ -200,7 +193,7 @@ abbrev named_fault : List Row → Option (Text × List Text) → Option Text →
 named_fault rows pending attached = long_fault rules false (Some order_rule) attached (held rows pending)
 
 named_walk : (rows : List Row) (pending : Option (Text × List Text)) (word : Text) → bytes_eq word dashes ≡ false → turn_fault leaf [] (at rows pending idle) word ≡ []
-    → (n : Names_order word) × (named_fault rows pending n.attached ≡ []) × (walked rules [] (at rows pending idle) word ≡ walk_by rows pending idle word false (Some (codes "order", n.attached)))
+    → (n : NamesOrder word) × (named_fault rows pending n.attached ≡ []) × (walked rules [] (at rows pending idle) word ≡ walk_by rows pending idle word false (Some (codes "order", n.attached)))
 unfolding walked
 named_walk rows pending word none fault =
     let n = idle_turn rows pending word none fault in
@@ -220,6 +213,7 @@ used_twice first second (word ∷ words) lack fault =
     refused None e = some_kind e
     refused (Some v) e = some_kind e
 
+-- nor after the option was named again
 named_twice : (first : Text) (words : List Text) → lack_dashes words → rest_fault (at (once first) empty waits_for_order) words ≡ [] → ⊥
 unfolding clap_on_literals
 named_twice first [] lack fault = some_kind fault
@@ -251,8 +245,9 @@ used_once first = nothing_more (once first) None first (λ second e. some_kind e
 asked_once : (first : Text) (words : List Text) → lack_dashes words → rest_fault (at [] (asks first) idle) words ≡ [] → words ≡ []
 asked_once first = nothing_more [] (asks first) first (λ second e. some_kind e) (λ word. refl)
 
--- ---- the words behind `replay` as a whole
+-- ---- as a whole
 
+-- words without a fault behind `replay` are the order that the option's value asks for
 pub rest_read : (words : List Text) → lack_dashes words → rest_fault (at [] None idle) words ≡ [] → order_in (codes "replay" ∷ words) ≡ asked (order_at_end (at [] None idle) words)
 unfolding clap_on_literals
 rest_read [] lack fault = refl

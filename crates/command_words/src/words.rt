@@ -147,9 +147,7 @@ fn are_form(words: &[String]) -> bool
         [word] => word.as_str() == "replay",
         [word, order] => word.as_str() == "replay" && are_named_lanes(order.as_bytes()),
         [word, name, lanes] => {
-            word.as_str() == "replay"
-                && name.as_str() == "--order"
-                && are_lanes(lanes.as_bytes())
+            word.as_str() == "replay" && name.as_str() == "--order" && are_lanes(lanes.as_bytes())
         }
         [_, _, _, _, ..] => false,
     }

@@ -1,4 +1,4 @@
-use Rattle.std.proofs.Common.{rules, ◌≡◌, ◌∙◌, ap, subst, Some, None, IfOk, option_map, Option, List, ℕ}
+use Rattle.std.proofs.Common.{◌≡◌, ◌∙◌, ap, subst, Some, None, IfOk, option_map, Option, List, ℕ}
 use Rattle.command_words.specs.Words.{lanes_in}
 use Rattle.command_words.proofs.AllWords.{matched}
 use Rattle.command_words.proofs.words.order_matched.Goals as goal
