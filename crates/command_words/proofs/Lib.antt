@@ -1,1 +1,4 @@
+mod AllWords
 mod Joined
+mod LongFlags
+mod ReplayWords

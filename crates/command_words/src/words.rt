@@ -1,7 +1,12 @@
 //! The words of the command.
-ghost use Rattle.std.specs.Prelude.{◌≡◌, ◌∷◌, [], true, Some, IfOk, OnErr, bytes_eq, codes, is_some, map, option_map, string_bytes};
+ghost use Rattle.std.specs.Prelude.{◌≡◌, true, Some, IfOk, OnErr, bytes_eq, codes, is_some, map, option_map, string_bytes};
+ghost use Rattle.std.specs.List.{list_any};
+ghost use Rattle.clap.specs.Words.{FailsBy, HasMatchesOf, fault_of, subcommand_rows_of};
 ghost use Rattle.command_words.specs.Words as form;
+ghost use Rattle.command_words.specs.Command as parsed;
 
+use clap::error::ErrorKind;
+use clap::{Arg, ArgMatches, Command, Error};
 use ndis_base::OutOfMemory;
 use std::alloc::Global;
 
@@ -71,75 +76,93 @@ fn lanes_of(alloc: Global, text: &[u8]) -> Result<Option<Vec<u8>>, OutOfMemory>
     Ok(Some(lanes))
 }
 
-/// The order of lanes that a word names and holds, if it does.
-fn named_lanes(alloc: Global, word: &[u8]) -> Result<Option<Vec<u8>>, OutOfMemory>
-    ensures told { IfOk result (λ o. option_map (λ lanes. lanes.items) o ≡ form.named_in word.now) }
-    ensures memory { OnErr result (is_some (form.named_in word.now) ≡ true) }
+/// What clap reads in the words: the one subcommand `replay` with its one option, and no help.
+fn matches_in<'a>(alloc: Global, words: &'a [String]) -> Result<ArgMatches<'a>, Error>
+    ensures matches { IfOk result (HasMatchesOf parsed.command (map (λ w. string_bytes w) words.now)) }
+    ensures kinds { FailsBy (fault_of parsed.command (map (λ w. string_bytes w) words.now)) result }
 {
-    match word.strip_prefix(b"--order=") {
-        Some(lanes) => lanes_of(alloc, lanes),
+    let order = Arg::new(alloc, "order").long("order");
+    let replay = Command::new(alloc, "replay").arg(order)?;
+    let command = Command::new(alloc, "ndis")
+        .no_binary_name(true)
+        .disable_help_flag(true)
+        .disable_help_subcommand(true)
+        .subcommand_required(true)
+        .subcommand(replay)?;
+    command.try_get_matches_from(words)
+}
+
+/// The order that the matches ask for: that of the option's value, or the empty one.
+fn order_matched(alloc: Global, matches: &ArgMatches<'_>) -> Result<Option<Vec<u8>>, OutOfMemory>
+    ensures { IfOk result (λ o. option_map (λ lanes. lanes.items) o ≡ parsed.order_asked (subcommand_rows_of matches.now)) }
+{
+    match matches.subcommand() {
+        Some((_name, replay)) => match replay.get_str("order") {
+            Some(lanes) => lanes_of(alloc, lanes.as_bytes()),
+            None => Ok(Some(Vec::new(alloc))),
+        },
         None => Ok(None),
     }
 }
 
-fn is_replay(word: &String) -> bool
-    ensures { result ≡ bytes_eq (string_bytes word.now) (codes "replay") }
+/// Whether a word is `--`. clap lets it stand behind any form, but it is in none.
+fn has_dashes(words: &[String]) -> bool
+    ensures { result ≡ list_any (λ w. bytes_eq (string_bytes w) (codes "--")) words.now }
 {
-    word.as_str() == "replay"
+    words.iter().any(|word| word.as_str() == "--")
 }
 
-/// The empty order, where the word is `replay`.
-fn no_order(alloc: Global, word: &String) -> Option<Vec<u8>>
-    ensures { option_map (λ lanes. lanes.items) result ≡ form.order_in (string_bytes word.now ∷ []) }
+/// The order of lanes that the words ask for, as clap reads them.
+fn order_read(alloc: Global, words: &[String]) -> Result<Option<Vec<u8>>, OutOfMemory>
+    ensures { IfOk result (λ o. option_map (λ lanes. lanes.items) o ≡ form.order_in (map (λ w. string_bytes w) words.now)) }
 {
-    if is_replay(word) {
-        Some(Vec::new(alloc))
-    } else {
-        None
+    if has_dashes(words) {
+        return Ok(None);
+    }
+    match matches_in(alloc, words) {
+        Ok(matches) => order_matched(alloc, &matches),
+        Err(error) => match error.kind() {
+            ErrorKind::OutOfMemory => Err(OutOfMemory),
+            _ => Ok(None),
+        },
     }
 }
 
-/// The order behind `replay` that a word names and holds.
-fn named_order(alloc: Global, word: &String, order: &String) -> Result<Option<Vec<u8>>, OutOfMemory>
-    ensures told { IfOk result (λ o. option_map (λ lanes. lanes.items) o ≡ form.order_in (string_bytes word.now ∷ string_bytes order.now ∷ [])) }
-    ensures memory { OnErr result (is_some (form.order_in (string_bytes word.now ∷ string_bytes order.now ∷ [])) ≡ true) }
+/// Whether a word names an order and holds it.
+fn are_named_lanes(word: &[u8]) -> bool
+    ensures { result ≡ is_some (form.named_in word.now) }
 {
-    if is_replay(word) {
-        named_lanes(alloc, order.as_bytes())
-    } else {
-        Ok(None)
+    match word.strip_prefix(b"--order=") {
+        Some(lanes) => are_lanes(lanes),
+        None => false,
     }
 }
 
-/// The order behind `replay` and its name.
-fn order_after_name(
-    alloc: Global,
-    word: &String,
-    name: &String,
-    lanes: &String,
-) -> Result<Option<Vec<u8>>, OutOfMemory>
-    ensures told { IfOk result (λ o. option_map (λ lanes. lanes.items) o ≡ form.order_in (string_bytes word.now ∷ string_bytes name.now ∷ string_bytes lanes.now ∷ [])) }
-    ensures memory { OnErr result (is_some (form.order_in (string_bytes word.now ∷ string_bytes name.now ∷ string_bytes lanes.now ∷ [])) ≡ true) }
+/// Whether the words are a form of the command. It takes no memory.
+fn are_form(words: &[String]) -> bool
+    ensures { result ≡ form.is_form (map (λ w. string_bytes w) words.now) }
 {
-    if is_replay(word) && name.as_str() == "--order" {
-        lanes_of(alloc, lanes.as_bytes())
-    } else {
-        Ok(None)
+    match words {
+        [] => false,
+        [word] => word.as_str() == "replay",
+        [word, order] => word.as_str() == "replay" && are_named_lanes(order.as_bytes()),
+        [word, name, lanes] => {
+            word.as_str() == "replay" && name.as_str() == "--order" && are_lanes(lanes.as_bytes())
+        }
+        [_, _, _, _, ..] => false,
     }
 }
 
 /// The order of lanes in which the words ask for a replay. The forms are `replay` alone, whose order is empty, and
 /// `replay` with `--order` and 1 to 16,384 digits 0 to 7 that are joined by commas, in one word or two. None where
-/// the words are no form. Memory may be wanting only where they are one.
+/// the words are no form. Memory may be wanting only where they are one: where clap lacks it, the words are looked at
+/// without it.
 pub fn order_of(alloc: Global, words: &[String]) -> Result<Option<Vec<u8>>, OutOfMemory>
     ensures told { IfOk result (λ o. option_map (λ lanes. lanes.items) o ≡ form.order_in (map (λ w. string_bytes w) words.now)) }
     ensures memory { OnErr result (is_some (form.order_in (map (λ w. string_bytes w) words.now)) ≡ true) }
 {
-    match words {
-        [] => Ok(None),
-        [word] => Ok(no_order(alloc, word)),
-        [word, order] => named_order(alloc, word, order),
-        [word, name, lanes] => order_after_name(alloc, word, name, lanes),
-        [_, _, _, _, ..] => Ok(None),
+    match order_read(alloc, words) {
+        Err(OutOfMemory) if !are_form(words) => Ok(None),
+        read => read,
     }
 }

@@ -1,5 +1,6 @@
-use Rattle.command_words.proofs.Joined.{too_many}
+use Rattle.std.proofs.Common.{rules, sym, ◌∙◌}
+use Rattle.command_words.proofs.AllWords.{no_form}
 use Rattle.command_words.proofs.words.order_of.Goals as goal
 
-pub returns-in-len4-up-clause-told : goal.returns-in-len4-up-clause-told
-returns-in-len4-up-clause-told c = too_many _ c.args.words.now c.in-len4-up.len_at_least
+pub returns-in-Err-clause-told : goal.returns-in-Err-clause-told
+returns-in-Err-clause-told c = no_form _ (sym c.are_form.ensures ∙ search rules)
